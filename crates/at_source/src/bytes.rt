@@ -1,0 +1,25 @@
+//! Bytes that are copied into memory that is there.
+ghost use Rattle.std.specs.Prelude.{◌≡◌, ◌+◌, ◌≤◌, ◌++◌, length, min, take, drop, vec_len, vec_capacity};
+
+/// Copies bytes from the front of `from` to the front of `buf`, at most `most` and as many as both hold, and says how
+/// many. The rest of `buf` stays.
+pub(crate) fn copy_front(from: &[u8], buf: &mut [u8], most: usize) -> usize
+    ensures count { result ≡ min (min most (length buf.old)) (length from.now) }
+    ensures front { take result buf.new ≡ take result from.now }
+    ensures rest { drop result buf.new ≡ drop result buf.old }
+{
+    let count = most.min(buf.len()).min(from.len());
+    buf[..count].copy_from_slice(&from[..count]);
+    count
+}
+
+/// Puts the bytes behind those of the list, which has room for them.
+pub(crate) fn append(list: &mut Vec<u8>, bytes: &[u8])
+    requires { vec_len list.old + length bytes.now ≤ vec_capacity list.old }
+    ensures items { list.new.items ≡ list.old.items ++ bytes.now }
+    ensures capacity { vec_capacity list.new ≡ vec_capacity list.old }
+{
+    for byte in bytes {
+        list.push_reserved(*byte);
+    }
+}

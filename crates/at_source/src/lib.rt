@@ -1,0 +1,15 @@
+//! Where bytes come from and where they go: sources, sinks, and a page of text before a sink.
+#![tactic(auto)]
+
+mod bytes;
+mod memory;
+mod sink;
+mod source;
+mod standard;
+mod sure;
+
+pub use memory::{MemSink, MemSource};
+pub use sink::Sink;
+pub use source::{Failed, Source};
+pub use standard::{StdSink, StdSource};
+pub use sure::{SureSink, SureSource};

@@ -1,0 +1,109 @@
+-- What `add` and `remove` keep of a tree, and what a tree without pairs has.
+use Rattle.std.proofs.Common.{◌≡◌, ◌≢◌, ℕ, ◌+◌, ◌<◌, ◌^◌, Bool, true, false, not, cond, eqb, List, [], ◌∷◌, ◌++◌, length, get_or, set, map, filter, replicate, AllPairs, Contains, ◌⊎◌, inl, inr, ⊎_elim, refl, sym, ap, ◌∙◌, subst, arith, rules}
+use Rattle.std.proofs.lemmas.Bool.{cases_eq, cases_lt}
+use Rattle.std.proofs.lemmas.List.{get_or-set_same, get_or-set_other, length-set, map-set, get_or-map, set-get_or, get_or-replicate, length-replicate, get_or_past, length-map}
+use Rattle.std.proofs.lemmas.List.Elements.{Contains-push_cases, Contains-append_left, Contains-get_or, All-filter, All-contains_itself, All-contains}
+use Rattle.std.proofs.lemmas.List.Quantifiers.{all_pairs_push}
+use Rattle.std.proofs.lemmas.List.Kept.{AllPairs-filter}
+use Rattle.at_tree.specs.Tree.{children, without, entered, IsPath, Reaches, IsTree}
+use Rattle.at_tree.proofs.Paths.{none_in, reach_here, reach_step, reach_trans, path_more}
+
+-- a write of one list, seen whole: f is what a list shows, tree what all showed before
+pub written : {X : Type 0} (f : X → List ℕ) (change : List ℕ → List ℕ) (xs : List X) (tree : List (List ℕ)) (i base : ℕ) (x y : X) → map f xs ≡ tree → i ≡ base → base < length tree → x ≡ get_or xs i x → f y ≡ change (f x) → map f (set xs i y) ≡ set tree base (change (children tree base))
+written {X} f change xs tree i base x y shown at inside was is =
+    let in_xs : i < length xs = omega (arith, ap length shown, length-map xs f) in
+    let before : f x ≡ children tree base =
+        ap f was ∙ sym (get_or-map f xs i x [] in_xs) ∙ ap (λ t. get_or t i []) shown ∙ ap (λ k. get_or tree k []) at in
+    map-set f xs i y ∙ ap (λ t. set t i (f y)) shown ∙ ap (λ k. set tree k (f y)) at ∙ ap (set tree base) (is ∙ ap change before)
+
+-- the same where the list is what it was
+pub rewritten : {X : Type 0} (f : X → List ℕ) (xs : List X) (tree : List (List ℕ)) (i base : ℕ) (x y : X) → map f xs ≡ tree → i ≡ base → base < length tree → x ≡ get_or xs i x → f y ≡ f x → map f (set xs i y) ≡ tree
+rewritten f xs tree i base x y shown at inside was is =
+    written f (λ list. list) xs tree i base x y shown at inside was is ∙ set-get_or tree base []
+
+-- what is in a filtered list is in the list
+pub in_filter : (p : ℕ → Bool) (xs : List ℕ) (x : ℕ) → Contains (filter p xs) x → Contains xs x
+in_filter p xs x h = All-contains (Contains xs) (filter p xs) x (All-filter p (Contains xs) xs (All-contains_itself xs)) h
+
+module _ (tree : List (List ℕ)) (t : IsTree tree) (base c : ℕ) (base_in : base < length tree) where
+  -- the direct subclasses of each class after a write of one list
+  children_set : (list : List ℕ) (P : List ℕ → Type 0) (k : ℕ) → (k ≡ base → P list) → (k ≢ base → P (children tree k)) → P (children (set tree base list) k)
+  children_set list P k here other =
+      ⊎_elim
+      (λ e. subst P (sym (ap (λ j. get_or (set tree base list) j []) e ∙ get_or-set_same tree base list [] base_in)) (here e))
+      (λ ne. subst P (sym (get_or-set_other tree base k list [] ne)) (other ne))
+      (cases_eq k base)
+
+  -- a pair of the tree with c below base was there, or is that pair
+  pair_added : (k e : ℕ) → Contains (children (set tree base (children tree base ++ c ∷ [])) k) e → Contains (children tree k) e ⊎ ((k ≡ base) × (e ≡ c))
+  pair_added k =
+      children_set (children tree base ++ c ∷ []) (λ list. (e : ℕ) → Contains list e → Contains (children tree k) e ⊎ ((k ≡ base) × (e ≡ c))) k
+      (λ at e h. ⊎_elim (λ old. inl (subst (λ j. Contains (children tree j) e) (sym at) old)) (λ new. inr (at, sym new)) (Contains-push_cases (children tree base) c e h))
+      (λ _ e h. inl h)
+
+  -- what the tree with c below base reaches was reached, or lies below c, from where base was reached
+  path_added : (a : ℕ) (path : List ℕ) (d : ℕ) → IsPath (set tree base (children tree base ++ c ∷ [])) [] a path d → Reaches tree [] a d ⊎ (Reaches tree [] a base × Reaches tree [] c d)
+  path_added a [] d p = inl ([], p)
+  path_added a (e ∷ path) d p =
+      ⊎_elim
+      (λ old. ⊎_elim
+          (λ r. inl (reach_step tree [] a e d old r))
+          (λ r. inr (reach_step tree [] a e base old r.0, r.1))
+          (path_added e path d p.1))
+      (λ new. inr (reach_here tree [] a base new.0, ⊎_elim (λ r. subst (λ x. Reaches tree [] x d) new.1 r) (λ r. r.1) (path_added e path d p.1)))
+      (pair_added a e p.0)
+
+  -- a pair whose base doesn't lie below its class leaves a tree
+  pub added : c < length tree → ¬ Contains (children tree base) c → ¬ Reaches tree [] c base → IsTree (set tree base (children tree base ++ c ∷ []))
+  added c_in absent not_below =
+      let new : List (List ℕ) = set tree base (children tree base ++ c ∷ []) in
+      let size : length new ≡ length tree = length-set tree base (children tree base ++ c ∷ []) in
+      record {
+        small = omega (arith, t.small);
+        numbers = λ k d h. subst (λ n. d < n) (sym size) (⊎_elim (λ old. t.numbers k d old) (λ one. subst (λ x. x < length tree) (sym one.1) c_in) (pair_added k d h));
+        once = λ k. children_set (children tree base ++ c ∷ []) (AllPairs (λ x y. x ≢ y)) k
+            (λ _. all_pairs_push (λ x y. x ≢ y) (children tree base) c (t.once base) (λ j d lt e. absent (subst (Contains (children tree base)) e (Contains-get_or (children tree base) j d lt))))
+            (λ _. t.once k);
+        acyclic = λ k d h r. ⊎_elim
+            (λ old. ⊎_elim
+                (λ q. t.acyclic k d old q)
+                (λ q. not_below (reach_trans tree [] c k base q.1 (reach_step tree [] k d base old q.0)))
+                (path_added d r.0 k r.1))
+            (λ one. not_below (⊎_elim
+                (λ q. subst (λ x. Reaches tree [] x base) one.1 (subst (Reaches tree [] d) one.0 q))
+                (λ q. subst (λ x. Reaches tree [] x base) one.1 q.0)
+                (path_added d r.0 k r.1)))
+            (pair_added k d h);
+      }
+
+  -- a pair of the tree in which base hasn't c was there
+  pair_kept : (k e : ℕ) → Contains (children (set tree base (without (children tree base) c)) k) e → Contains (children tree k) e
+  pair_kept k =
+      children_set (without (children tree base) c) (λ list. (e : ℕ) → Contains list e → Contains (children tree k) e) k
+      (λ at e h. subst (λ j. Contains (children tree j) e) (sym at) (in_filter (λ d. not (eqb d c)) (children tree base) e h))
+      (λ _ e h. h)
+
+  -- a tree stays one without a pair
+  pub removed : IsTree (set tree base (without (children tree base) c))
+  removed =
+      let size : length (set tree base (without (children tree base) c)) ≡ length tree = length-set tree base (without (children tree base) c) in
+      record {
+        small = omega (arith, t.small);
+        numbers = λ k d h. subst (λ n. d < n) (sym size) (t.numbers k d (pair_kept k d h));
+        once = λ k. children_set (without (children tree base) c) (AllPairs (λ x y. x ≢ y)) k
+            (λ _. AllPairs-filter (λ x y. x ≢ y) (λ d. not (eqb d c)) (children tree base) (t.once base))
+            (λ _. t.once k);
+        acyclic = λ k d h r. t.acyclic k d (pair_kept k d h) (path_more (set tree base (without (children tree base) c)) tree pair_kept d r.0 k r.1);
+      }
+
+-- a tree without pairs has no direct subclass
+children_empty : (n k : ℕ) → children (replicate n []) k ≡ []
+children_empty n k = ⊎_elim (λ lt. get_or-replicate n k [] [] lt) (λ le. get_or_past (replicate n []) k [] (omega (arith, length-replicate {A = List ℕ} n []))) (cases_lt k n)
+
+pub empty : (n : ℕ) → n < 2 ^ 16 → IsTree (replicate n [])
+empty n fits = record {
+  small = subst (λ m. m < 2 ^ 16) (sym (length-replicate n [])) fits;
+  numbers = λ k d h. absurd (none_in d (subst (λ list. Contains list d) (children_empty n k) h));
+  once = λ k. subst (AllPairs (λ x y. x ≢ y)) (sym (children_empty n k)) (λ i j d _ lt. absurd (omega arith));
+  acyclic = λ k d h r. none_in d (subst (λ list. Contains list d) (children_empty n k) h);
+}

@@ -1,0 +1,44 @@
+-- Lemmas on what is reached in a tree.
+use Rattle.std.proofs.Common.{◌≡◌, ◌≢◌, ℕ, ◌+◌, ◌<◌, Bool, true, false, cond, List, [], ◌∷◌, ◌++◌, length, get_or, Contains, ◌⊎◌, inl, inr, refl, sym, ap, ◌∙◌, subst, arith, rules}
+use Rattle.at_tree.specs.Tree.{children, entered, IsPath, Reaches, IsTree}
+
+-- nothing is in the empty list
+pub none_in : {X : Type 0} (x : X) → ¬ Contains [] x
+none_in x h = absurd (omega (arith, h.1))
+
+-- a class is reached from itself
+pub reach_here : (tree : List (List ℕ)) (stop : List Bool) (c d : ℕ) → c ≡ d → Reaches tree stop c d
+reach_here tree stop c d e = ([], e)
+
+-- one step further up
+pub reach_step : (tree : List (List ℕ)) (stop : List Bool) (c e d : ℕ) → Contains (entered tree stop c) e → Reaches tree stop e d → Reaches tree stop c d
+reach_step tree stop c e d h r = (e ∷ r.0, (h, r.1))
+
+-- a path goes on where another ends
+pub reach_along : (tree : List (List ℕ)) (stop : List Bool) (c : ℕ) (path : List ℕ) (d e : ℕ) → IsPath tree stop c path d → Reaches tree stop d e → Reaches tree stop c e
+reach_along tree stop c [] d e p r = subst (λ x. Reaches tree stop x e) (sym p) r
+reach_along tree stop c (f ∷ path) d e p r = reach_step tree stop c f e p.0 (reach_along tree stop f path d e p.1 r)
+
+pub reach_trans : (tree : List (List ℕ)) (stop : List Bool) (c d e : ℕ) → Reaches tree stop c d → Reaches tree stop d e → Reaches tree stop c e
+reach_trans tree stop c d e q r = reach_along tree stop c q.0 d e q.1 r
+
+-- what is entered is a direct subclass
+pub child_from_entered : (tree : List (List ℕ)) (stop : List Bool) (c e : ℕ) → Contains (entered tree stop c) e → Contains (children tree c) e
+child_from_entered tree stop c e =
+    elim (get_or stop c false) as (λ b. Contains (cond b [] (children tree c)) e → Contains (children tree c) e) [
+        true ↦ λ h. absurd (none_in e h)
+        | false ↦ λ h. h
+    ]
+
+-- what is reached through no marked class is reached
+pub path_unmarked : (tree : List (List ℕ)) (stop : List Bool) (c : ℕ) (path : List ℕ) (d : ℕ) → IsPath tree stop c path d → Reaches tree [] c d
+path_unmarked tree stop c [] d p = ([], p)
+path_unmarked tree stop c (e ∷ path) d p = reach_step tree [] c e d (child_from_entered tree stop c e p.0) (path_unmarked tree stop e path d p.1)
+
+pub reach_unmarked : (tree : List (List ℕ)) (stop : List Bool) (c d : ℕ) → Reaches tree stop c d → Reaches tree [] c d
+reach_unmarked tree stop c d r = path_unmarked tree stop c r.0 d r.1
+
+-- a tree with fewer pairs reaches no more
+pub path_more : (small tree : List (List ℕ)) → ((c e : ℕ) → Contains (children small c) e → Contains (children tree c) e) → (c : ℕ) (path : List ℕ) (d : ℕ) → IsPath small [] c path d → Reaches tree [] c d
+path_more small tree more c [] d p = ([], p)
+path_more small tree more c (e ∷ path) d p = reach_step tree [] c e d (more c e p.0) (path_more small tree more e path d p.1)

@@ -1,0 +1,20 @@
+use Rattle.std.proofs.Common.{◌≡◌, ℕ, List, [], ◌∷◌, ◌++◌, sym, ap, ◌∙◌, subst}
+use Rattle.at_tree.specs.Tree.{children, IsTree}
+use Rattle.at_tree.proofs.Changes.{written, rewritten, added}
+use Rattle.at_tree.proofs.Tree.add.Goals as goal
+
+pub invariant_of-self : goal.invariant_of-self
+invariant_of-self c =
+    subst IsTree (sym (rewritten (λ v. v.items) c.self.inside.lists.items _ _ _ _ c.push.new.self c.self.view_is c.from.ensures c.requires.base_in c.index_mut.ensures.value c.in_err-push.ensures.items))
+    (subst IsTree c.self.view_is c.self.invariant)
+
+pub returns-in_err-push-clause-err : goal.returns-in_err-push-clause-err
+returns-in_err-push-clause-err c = ?
+
+pub invariant_of-self-2 : goal.invariant_of-self-2
+invariant_of-self-2 c =
+    subst IsTree (sym (written (λ v. v.items) (λ list. list ++ c.args.c ∷ []) c.self.inside.lists.items _ _ _ _ c.push.new.self c.self.view_is c.from.ensures c.requires.base_in c.index_mut.ensures.value c.in_ok-push.ensures.items))
+    (added c.args.self.now (subst IsTree c.self.view_is c.self.invariant) c.args.base c.args.c c.requires.base_in c.requires.c_in c.requires.absent c.requires.not_below)
+
+pub returns-clause-ok : goal.returns-clause-ok
+returns-clause-ok c = written (λ v. v.items) (λ list. list ++ c.args.c ∷ []) c.self.inside.lists.items _ _ _ _ c.push.new.self c.self.view_is c.from.ensures c.requires.base_in c.index_mut.ensures.value c.in_ok-push.ensures.items

@@ -1,0 +1,69 @@
+//! The tree of direct subclasses, and the walk over all that lies below a class.
+#![tactic(auto)]
+
+ghost use Rattle.std.specs.Prelude.{◌≡◌, ◌<◌, [], ◌∷◌, ◌++◌, length, replicate, Contains, IfOk, OnOk, OnErr, slice_set};
+ghost use Rattle.at_tree.specs.Tree.{children, without, Reaches};
+
+use std::alloc::{AllocError, Global};
+use std::marker::Model;
+
+/// For each class, by number, the list of its direct subclasses in the order in which they joined.
+///
+/// No class lies below itself.
+#[derive(Drop)]
+pub struct Tree {
+    lists: Vec<Vec<u16>>,
+}
+
+impl Model for Tree {
+    ghost use Rattle.std.specs.Prelude.{List, ℕ, map};
+    ghost use Rattle.at_tree.specs.Tree.{IsTree};
+
+    ghost Value = { List (List ℕ) };
+
+    ghost view = { λ t. map (λ v. v.items) t.lists.items };
+
+    ghost invariant = { λ t. IsTree (map (λ v. v.items) t.lists.items) };
+}
+
+impl Tree {
+    /// The classes 0 to n - 1, none of which has a subclass.
+    pub fn new(alloc: Global, n: u16) -> Result<Tree, AllocError>
+        ensures { IfOk result (λ tree. tree ≡ replicate n []) }
+    {
+        let mut lists = Vec::with_capacity(alloc, usize::from(n))?;
+        for _ in 0..n {
+            lists.push(Vec::new(alloc))?;
+        }
+        Ok(Tree { lists })
+    }
+
+    /// How many classes there are.
+    pub fn size(&self) -> u16
+        ensures { result ≡ length self.now }
+    {
+        self.lists.len() as u16
+    }
+
+    /// Makes c the last of the direct subclasses of the base. Out of memory changes nothing.
+    pub fn add(&mut self, base: u16, c: u16) -> Result<(), AllocError>
+        requires base_in { base < length self.old }
+        requires c_in { c < length self.old }
+        requires absent { ¬ Contains (children self.old base) c }
+        requires not_below { ¬ Reaches self.old [] c base }
+        ensures ok { OnOk result (self.new ≡ slice_set self.old base (children self.old base ++ c ∷ [])) }
+        ensures err { OnErr result (self.new ≡ self.old) }
+    {
+        self.lists[usize::from(base)].push(c)?;
+        Ok(())
+    }
+
+    /// Takes c from the direct subclasses of the base, which keep their order.
+    pub fn remove(&mut self, base: u16, c: u16)
+        requires base_in { base < length self.old }
+        requires present { Contains (children self.old base) c }
+        ensures { self.new ≡ slice_set self.old base (without (children self.old base) c) }
+    {
+        self.lists[usize::from(base)].retain(|d| *d != c);
+    }
+}

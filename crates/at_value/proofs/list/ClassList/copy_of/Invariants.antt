@@ -1,0 +1,10 @@
+use Rattle.std.proofs.Common.{◌≡◌, take}
+use Rattle.at_value.specs.Lists.{AreClasses}
+use Rattle.at_value.proofs.list.ClassList.copy_of.Given as goal
+
+-- the classes that were copied so far
+abbrev pub invariant-loop-class : goal.invariant-loop-class
+invariant-loop-class l = record {
+  same : l.items.items ≡ take l.class-index l.list;
+  classes : AreClasses l.items.items;
+}

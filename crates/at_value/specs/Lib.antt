@@ -1,0 +1,5 @@
+pub mod Numbers
+pub mod Parts
+pub mod Properties
+pub mod Lists
+pub mod Pairs

@@ -1,0 +1,17 @@
+-- What a property has: functions that get, set and delete, each where it is given.
+use Rattle.std.specs.Prelude.{ℕ, zero, suc, Option, Some, None}
+
+pub record Parts : Type 0 where
+  pub get : Option ℕ
+  pub set : Option ℕ
+  pub del : Option ℕ
+
+-- a number holds the part below it, and 0 no part
+abbrev pub part : ℕ → Option ℕ
+part zero = None
+part (suc f) = Some f
+
+-- the number that holds a part
+abbrev pub held : Option ℕ → ℕ
+held None = 0
+held (Some f) = suc f

@@ -1,0 +1,28 @@
+-- How three numbers hold a property.
+use Rattle.std.specs.Prelude.{ℕ, zero, suc, ◌≤◌, ◌≡◌, Option, Some, None, refl}
+use Rattle.std.proofs.Common.{◌∙◌, ap}
+use Rattle.at_value.specs.declared.value.Prop.TheInside.{Inside}
+use Rattle.at_value.specs.Parts.{Parts, part, held}
+
+abbrev pub parts_of : Inside → Parts
+parts_of p = record { get = part p.get; set = part p.set; del = part p.del }
+
+-- each part is a function, of which there are 1,024
+pub record AreParts (p : Inside) : Type 0 where
+  pub get : p.get ≤ 1024
+  pub set : p.set ≤ 1024
+  pub del : p.del ≤ 1024
+
+abbrev pub inside_of : Parts → Inside
+inside_of p = record { get = held p.get; set = held p.set; del = held p.del }
+
+pub held-part : (n : ℕ) → held (part n) ≡ n
+held-part zero = refl
+held-part (suc f) = refl
+
+pub inside_of-parts_of : (p : Inside) → inside_of (parts_of p) ≡ p
+inside_of-parts_of p =
+    let f : ℕ → ℕ → ℕ → Inside = λ g s d. record { get = g; set = s; del = d } in
+    ap (λ g. f g (held (part p.set)) (held (part p.del))) (held-part p.get)
+    ∙ ap (λ s. f p.get s (held (part p.del))) (held-part p.set)
+    ∙ ap (λ d. f p.get p.set d) (held-part p.del)

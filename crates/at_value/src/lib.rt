@@ -1,0 +1,19 @@
+//! The vocabulary of the data model: numbers of names, classes, objects and functions, values, operations, replies,
+//! and the short lists and the map that they are kept in.
+#![tactic(auto)]
+
+mod list;
+mod number;
+mod operation;
+mod pairs;
+mod reply;
+#[cfg(test)]
+mod tests;
+mod value;
+
+pub use list::{Bases, BasesFull, ClassList};
+pub use number::{Class, Func, Name, Obj};
+pub use operation::Op;
+pub use pairs::Pairs;
+pub use reply::{Answer, HookKind, Miss, Path, Place, Reply};
+pub use value::{Prop, Value};

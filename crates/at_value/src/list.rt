@@ -1,0 +1,155 @@
+//! Short lists of classes. Contracts see each as the list of the classes' numbers.
+ghost use Rattle.std.specs.Prelude.{◌≡◌, ◌<◌, ◌≤◌, ℕ, List, [], ◌∷◌, ◌++◌, length, IfOk, IsTrue, ◌↔◌, OnOk, OnErr, slice_get};
+
+use crate::number::Class;
+use std::alloc::{AllocError, Global};
+use std::marker::Model;
+
+/// The answer to a ninth base.
+#[derive(Clone, Copy, Debug, PartialEq, Eq)]
+pub struct BasesFull;
+
+/// The bases of a class: at most eight classes, in order. Unused cells hold class 0.
+#[derive(Clone, Copy, Debug, PartialEq, Eq)]
+pub struct Bases {
+    items: [Class; 8],
+    len: u8,
+}
+
+impl Model for Bases {
+    ghost use Rattle.std.specs.Prelude.{List, ℕ, length, take};
+
+    ghost Value = { List ℕ };
+
+    ghost use Rattle.at_value.specs.Lists.{AreCells, cells_of, cells_again};
+
+    ghost view = { λ b. take b.len b.items };
+
+    ghost invariant = { λ b. AreCells b.len b.items };
+
+    ghost inverse = { λ list. record { items = cells_of list; len = length list } };
+
+    ghost inverse_ok = { cells_again };
+}
+
+impl Bases {
+    /// How many bases a class may have.
+    pub const MOST: usize = 8;
+
+    /// No base.
+    pub fn none() -> Bases
+        ensures { result ≡ [] }
+    {
+        Bases {
+            items: [Class::object(); 8],
+            len: 0,
+        }
+    }
+
+    /// The one base c.
+    pub fn only(c: Class) -> Bases
+        ensures { result ≡ c ∷ [] }
+    {
+        let mut bases = Bases::none();
+        let _ = bases.push(c);
+        bases
+    }
+
+    /// Adds a class at the end. It answers `BasesFull` exactly where eight stand, and then nothing changes.
+    pub fn push(&mut self, c: Class) -> Result<(), BasesFull>
+        ensures ok { OnOk result ((length self.old < 8) × (self.new ≡ self.old ++ c ∷ [])) }
+        ensures full { OnErr result ((length self.old ≡ 8) × (self.new ≡ self.old)) }
+    {
+        let at = usize::from(self.len);
+        if at == Self::MOST {
+            return Err(BasesFull);
+        }
+        self.items[at] = c;
+        self.len += 1;
+        Ok(())
+    }
+
+    /// How many bases there are, at most eight.
+    pub fn len(&self) -> usize
+        ensures same { result ≡ length self.now }
+        ensures most { result ≤ 8 }
+    {
+        usize::from(self.len)
+    }
+
+    /// Whether there is no base.
+    pub fn is_empty(&self) -> bool
+        ensures { IsTrue result ↔ (self.now ≡ []) }
+    {
+        self.len == 0
+    }
+
+    /// The bases, in order.
+    pub fn as_slice(&self) -> &[Class]
+        ensures { result.now ≡ self.now }
+    {
+        &self.items[..usize::from(self.len)]
+    }
+
+    /// The base at this index, and none exactly from the length on.
+    pub fn at(&self, i: usize) -> Option<Class>
+        ensures { result ≡ slice_get self.now i }
+    {
+        self.as_slice().get(i).copied()
+    }
+}
+
+/// A list of classes of any length, one byte each.
+#[derive(Drop, Debug)]
+pub struct ClassList {
+    items: Vec<u8>,
+}
+
+impl Model for ClassList {
+    ghost use Rattle.std.specs.Prelude.{List, ℕ};
+
+    ghost Value = { List ℕ };
+
+    ghost use Rattle.at_value.specs.Lists.{AreClasses};
+
+    ghost view = { λ l. l.items.items };
+
+    ghost invariant = { λ l. AreClasses l.items.items };
+}
+
+impl ClassList {
+    /// A list of these classes.
+    pub fn copy_of(alloc: Global, list: &[Class]) -> Result<ClassList, AllocError>
+        ensures { IfOk result (λ copy. copy ≡ list.now) }
+    {
+        let mut items = Vec::with_capacity(alloc, list.len())?;
+        for class in list {
+            items.push(class.number() as u8)?;
+        }
+        Ok(ClassList { items })
+    }
+
+    /// How many classes there are.
+    pub fn len(&self) -> usize
+        ensures { result ≡ length self.now }
+    {
+        self.items.len()
+    }
+
+    /// Whether there is no class.
+    pub fn is_empty(&self) -> bool
+        ensures { IsTrue result ↔ (self.now ≡ []) }
+    {
+        self.items.is_empty()
+    }
+
+    /// The class at this index, and none exactly from the length on.
+    pub fn at(&self, i: usize) -> Option<Class>
+        ensures { result ≡ slice_get self.now i }
+    {
+        match self.items.get(i) {
+            Some(number) => Class::new(u16::from(*number)),
+            None => None,
+        }
+    }
+}
