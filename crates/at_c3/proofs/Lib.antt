@@ -1,0 +1,6 @@
+pub mod SliceLemmas
+pub mod StepLemmas
+pub mod NumberLemmas
+pub mod RunLemmas
+pub mod RelationLemmas
+pub mod OrderLemmas

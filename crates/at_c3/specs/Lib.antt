@@ -1,2 +1,3 @@
+pub mod Counts
 pub mod Merge
 pub mod Laws

@@ -3,8 +3,9 @@
 #![tactic(auto)]
 
 pub mod laws;
+mod counts;
 mod merging;
 #[cfg(test)]
 mod tests;
 
-pub use merging::{List, MergeFault};
+pub use merging::{List, MergeFault, merge, order, order_of_slices};

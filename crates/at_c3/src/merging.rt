@@ -99,10 +99,72 @@ fn are_all_empty(lists: &[&[u16]]) -> bool
 fn merge_onto(mut merged: List, rests: &mut [&[u16]]) -> Result<List, MergeFault>
     ensures merged { IfOk result (λ list. prefixed merged.items (merge_of (contents rests.old)) ≡ Some list.items) }
     ensures no_head { IsErrOf result MergeFault.NoHead → prefixed merged.items (merge_of (contents rests.old)) ≡ None }
+    ensures none { prefixed merged.items (merge_of (contents rests.old)) ≡ None → IsErr result }
+    ensures some { IsSome (prefixed merged.items (merge_of (contents rests.old))) → IsOkUnless result MergeFault.NoMemory }
 {
     while let Some(head) = first_free_head(rests) {
         merged.push(head)?;
         remove_head(head, rests);
     }
     if are_all_empty(rests) { Ok(merged) } else { Err(MergeFault::NoHead) }
+}
+
+/// The slices of the lists, with room for one more.
+fn slices_of<'a>(alloc: Global, lists: &'a [List]) -> Result<Rests<'a>, MergeFault>
+    ensures slices { IfOk result (λ slices. contents slices.items ≡ map (λ l. l.items) lists.now) }
+    ensures fault { IsOkUnless result MergeFault.NoMemory }
+{
+    let mut slices = SmallVec::new(alloc);
+    slices.reserve(lists.len())?;
+    for list in lists {
+        slices.push(list.as_slice())?;
+    }
+    Ok(slices)
+}
+
+/// The C3 merge of the lists: while any number is left, the head of the first list whose head
+/// stands in no tail, taken from all heads.
+///
+/// `NoHead` where the lists have no merge, since each head that is left stands in some tail;
+/// `NoMemory` where memory ran out, which may come in place of either other answer.
+pub fn merge(alloc: Global, lists: &[List]) -> Result<List, MergeFault>
+    ensures merged { IfOk result (λ list. merge_of (map (λ l. l.items) lists.now) ≡ Some list.items) }
+    ensures no_head { IsErrOf result MergeFault.NoHead → merge_of (map (λ l. l.items) lists.now) ≡ None }
+    ensures none { merge_of (map (λ l. l.items) lists.now) ≡ None → IsErr result }
+    ensures some { IsSome (merge_of (map (λ l. l.items) lists.now)) → IsOkUnless result MergeFault.NoMemory }
+{
+    merge_onto(SmallVec::new(alloc), &mut slices_of(alloc, lists)?)
+}
+
+/// The order of class `c`, where each of its bases has its order in `orders`: `c`, and then the
+/// merge of these orders and of the list of bases.
+///
+/// `NoHead` where they have no merge; `NoMemory` where memory ran out, which may come in place
+/// of either other answer.
+pub fn order(alloc: Global, c: u16, bases: &[u16], orders: &[List]) -> Result<List, MergeFault>
+    ensures ordered { IfOk result (λ list. order_of_lists c bases.now (map (λ l. l.items) orders.now) ≡ Some list.items) }
+    ensures no_head { IsErrOf result MergeFault.NoHead → order_of_lists c bases.now (map (λ l. l.items) orders.now) ≡ None }
+    ensures none { order_of_lists c bases.now (map (λ l. l.items) orders.now) ≡ None → IsErr result }
+    ensures some { IsSome (order_of_lists c bases.now (map (λ l. l.items) orders.now)) → IsOkUnless result MergeFault.NoMemory }
+{
+    order_of_slices(alloc, c, bases, &slices_of(alloc, orders)?)
+}
+
+/// The order of class `c`, as [`order`] gives it, where the orders of its bases are slices.
+pub fn order_of_slices<'a>(
+    alloc: Global,
+    c: u16,
+    bases: &'a [u16],
+    orders: &[&'a [u16]],
+) -> Result<List, MergeFault>
+    ensures ordered { IfOk result (λ list. order_of_lists c bases.now (contents orders.now) ≡ Some list.items) }
+    ensures no_head { IsErrOf result MergeFault.NoHead → order_of_lists c bases.now (contents orders.now) ≡ None }
+    ensures none { order_of_lists c bases.now (contents orders.now) ≡ None → IsErr result }
+    ensures some { IsSome (order_of_lists c bases.now (contents orders.now)) → IsOkUnless result MergeFault.NoMemory }
+{
+    let mut rests: Rests = SmallVec::from_slice(alloc, orders)?;
+    rests.push(bases)?;
+    let mut front = SmallVec::new(alloc);
+    front.push(c)?;
+    merge_onto(front, &mut rests)
 }

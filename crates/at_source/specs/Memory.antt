@@ -13,9 +13,9 @@ pub record CallState : Type 0 where
 abbrev pub fails_next : CallState → Bool
 fails_next calls = list_any (λ number. number == calls.made) calls.fails
 
--- after one more call
-abbrev pub called : CallState → CallState
-called calls = record calls { made = one_more calls.made; faults = if fails_next calls then one_more calls.faults else calls.faults }
+-- after one more call, which failed or not
+abbrev pub counted : CallState → Bool → CallState
+counted calls failed = record calls { made = one_more calls.made; faults = if failed then one_more calls.faults else calls.faults }
 
 -- A source in memory: the bytes still to come, and the most that a read gives.
 pub record SourceState : Type 0 where

@@ -7,9 +7,11 @@ mod sink;
 mod source;
 mod standard;
 mod sure;
+mod whole;
 
 pub use memory::{MemSink, MemSource};
 pub use sink::Sink;
 pub use source::{Failed, Source};
 pub use standard::{StdSink, StdSource};
 pub use sure::{SureSink, SureSource};
+pub use whole::{ReadAllFault, read_all, send};

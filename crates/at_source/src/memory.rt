@@ -1,7 +1,7 @@
 //! A source and a sink in memory that tell their content and fail at chosen calls.
-ghost use Rattle.std.specs.Prelude.{◌≡◌, ◌+◌, ◌-◌, ◌^◌, ◌<◌, ◌≤◌, ◌↔◌, ℕ, List, [], Option, Some, length, min, take, drop, vec_len, vec_capacity, IsErr, IsTrue, IfOk, OnErr, ◌++◌, ◌⊎◌};
-ghost use Rattle.at_source.specs.Faults.{Rose, one_more};
-ghost use Rattle.at_source.specs.Memory.{CallState, SourceState, SinkState, called, fails_next};
+ghost use Rattle.std.specs.Prelude.{◌≡◌, ◌+◌, ◌-◌, ◌<◌, ◌≤◌, ◌↔◌, ℕ, List, [], Option, Some, length, min, take, drop, vec_len, vec_capacity, IsErr, IsTrue, is_err, IfOk, OnErr, ◌++◌, ◌⊎◌};
+ghost use Rattle.at_source.specs.Faults.{one_more};
+ghost use Rattle.at_source.specs.Memory.{CallState, SourceState, SinkState, counted, fails_next};
 
 use crate::bytes::{append, copy_front};
 use crate::sink::Sink;
@@ -37,7 +37,7 @@ impl Calls {
     /// Counts a call, and fails where its number stands among `fails`.
     fn begin(&mut self) -> Result<(), Failed>
         ensures fails { IsErr result ↔ IsTrue (fails_next self.old) }
-        ensures after { self.new ≡ called self.old }
+        ensures after { self.new ≡ counted self.old (is_err result) }
         ensures later { self.old.faults ≤ self.new.faults }
     {
         let is_fault = self.fails.contains(&self.made);
@@ -109,9 +109,10 @@ impl Source for MemSource {
         ensures rest { IfOk result (λ k. drop k buf.new ≡ drop k buf.old) }
 
         // The call is counted, and the limit stays.
-        ensures calls { self.new.calls ≡ called self.old.calls }
+        ensures calls { self.new.calls ≡ counted self.old.calls (is_err result) }
         ensures later { self.old.calls.faults ≤ self.new.calls.faults }
-        ensures limit { (self.new.most ≡ self.old.most) × (0 < self.new.most) }
+        ensures limit { self.new.most ≡ self.old.most }
+        ensures positive { 0 < self.old.most }
     {
         self.calls.begin()?;
         let count = copy_front(&self.bytes[self.at..], buf, self.most);
@@ -181,12 +182,13 @@ impl Sink for MemSink {
         // Else it takes all that it may.
         ensures count { IfOk result (λ k. k ≡ min (min self.old.most (length piece.now)) self.old.room) }
         ensures taken { IfOk result (λ k. self.new.written ≡ self.old.written ++ take k piece.now) }
+        ensures room { self.new.room + length self.new.written ≡ self.old.room + length self.old.written }
 
         // The call is counted, and the limit stays.
-        ensures made { self.new.calls.made ≡ one_more self.old.calls.made }
+        ensures calls { self.new.calls ≡ counted self.old.calls (is_err result) }
         ensures later { self.old.calls.faults ≤ self.new.calls.faults }
-        ensures cause { OnErr result (Rose self.old.calls.faults self.new.calls.faults) }
-        ensures limit { (self.new.most ≡ self.old.most) × (0 < self.old.most) }
+        ensures limit { self.new.most ≡ self.old.most }
+        ensures positive { 0 < self.old.most }
     {
         self.calls.begin()?;
         let count = self.most.min(piece.len()).min(self.room);
@@ -202,7 +204,7 @@ impl Sink for MemSink {
     fn flush(&mut self) -> Result<(), Failed>
         // It fails at the chosen calls alone, and changes nothing else.
         ensures fails { IsErr result ↔ IsTrue (fails_next self.old.calls) }
-        ensures after { self.new ≡ record self.old { calls = called self.old.calls } }
+        ensures after { self.new ≡ record self.old { calls = counted self.old.calls (is_err result) } }
         ensures later { self.old.calls.faults ≤ self.new.calls.faults }
     {
         self.calls.begin()

@@ -74,7 +74,8 @@ impl<O: Write> StdSink<O> {
 
     /// Counts a fault.
     fn fault(&mut self) -> Failed
-        ensures { self.new ≡ one_more self.old }
+        ensures count { self.new ≡ one_more self.old }
+        ensures later { self.old ≤ self.new }
     {
         self.faults = self.faults.saturating_add(1);
         Failed

@@ -6,7 +6,8 @@ use Rattle.std.proofs.lemmas.List.Elements.{Contains-push_cases, Contains-append
 use Rattle.std.proofs.lemmas.List.Quantifiers.{all_pairs_push}
 use Rattle.std.proofs.lemmas.List.Kept.{AllPairs-filter}
 use Rattle.at_tree.specs.Tree.{children, without, entered, IsPath, Reaches, IsTree}
-use Rattle.at_tree.proofs.Paths.{none_in, reach_here, reach_step, reach_trans, path_more}
+use Rattle.at_tree.proofs.Members.{none_in}
+use Rattle.at_tree.proofs.Paths.{reach_here, reach_step, reach_trans, path_more}
 
 -- a write of one list, seen whole: f is what a list shows, tree what all showed before
 pub written : {X : Type 0} (f : X → List ℕ) (change : List ℕ → List ℕ) (xs : List X) (tree : List (List ℕ)) (i base : ℕ) (x y : X) → map f xs ≡ tree → i ≡ base → base < length tree → x ≡ get_or xs i x → f y ≡ change (f x) → map f (set xs i y) ≡ set tree base (change (children tree base))

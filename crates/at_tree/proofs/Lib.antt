@@ -1,2 +1,6 @@
+pub mod Members
 pub mod Paths
 pub mod Changes
+pub mod Walks
+pub mod Fuel
+pub mod Stages

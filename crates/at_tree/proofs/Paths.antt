@@ -1,10 +1,9 @@
 -- Lemmas on what is reached in a tree.
 use Rattle.std.proofs.Common.{◌≡◌, ◌≢◌, ℕ, ◌+◌, ◌<◌, Bool, true, false, cond, List, [], ◌∷◌, ◌++◌, length, get_or, Contains, ◌⊎◌, inl, inr, refl, sym, ap, ◌∙◌, subst, arith, rules}
 use Rattle.at_tree.specs.Tree.{children, entered, IsPath, Reaches, IsTree}
+use Rattle.at_tree.proofs.Members.{none_in}
 
--- nothing is in the empty list
-pub none_in : {X : Type 0} (x : X) → ¬ Contains [] x
-none_in x h = absurd (omega (arith, h.1))
+
 
 -- a class is reached from itself
 pub reach_here : (tree : List (List ℕ)) (stop : List Bool) (c d : ℕ) → c ≡ d → Reaches tree stop c d

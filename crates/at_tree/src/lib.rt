@@ -4,6 +4,8 @@
 ghost use Rattle.std.specs.Prelude.{◌≡◌, ◌<◌, [], ◌∷◌, ◌++◌, length, replicate, Contains, IfOk, OnOk, OnErr, slice_set};
 ghost use Rattle.at_tree.specs.Tree.{children, without, Reaches};
 
+mod walk;
+
 use std::alloc::{AllocError, Global};
 use std::marker::Model;
 
@@ -64,6 +66,13 @@ impl Tree {
         requires present { Contains (children self.old base) c }
         ensures { self.new ≡ slice_set self.old base (without (children self.old base) c) }
     {
-        self.lists[usize::from(base)].retain(|d| *d != c);
+        take_out(&mut self.lists[usize::from(base)], c);
     }
+}
+
+/// Takes a class out of a list, and keeps the order of the others.
+fn take_out(list: &mut Vec<u16>, c: u16)
+    ensures { list.new.items ≡ without list.old.items c }
+{
+    list.retain(|d| *d != c);
 }

@@ -7,6 +7,7 @@ mod number;
 mod operation;
 mod pairs;
 mod reply;
+mod sequence;
 #[cfg(test)]
 mod tests;
 mod value;
@@ -16,4 +17,5 @@ pub use number::{Class, Func, Name, Obj};
 pub use operation::Op;
 pub use pairs::Pairs;
 pub use reply::{Answer, HookKind, Miss, Path, Place, Reply};
+pub use sequence::Sequence;
 pub use value::{Prop, Value};

@@ -1,7 +1,12 @@
-use Rattle.std.proofs.Common.{◌≡◌, ℕ, List, [], ◌∷◌, ◌++◌, sym, ap, ◌∙◌, subst}
+use Rattle.std.proofs.Common.{◌≡◌, ℕ, List, [], ◌∷◌, ◌++◌, Result, Ok, Err, OnErr, sym, ap, ◌∙◌, subst}
 use Rattle.at_tree.specs.Tree.{children, IsTree}
 use Rattle.at_tree.proofs.Changes.{written, rewritten, added}
 use Rattle.at_tree.proofs.Tree.add.Goals as goal
+
+-- what is true holds where there is an error
+on_err_true : {T E P : Type 0} (r : Result T E) → P → OnErr r P
+on_err_true (Ok x) p = tt
+on_err_true (Err e) p = p
 
 pub invariant_of-self : goal.invariant_of-self
 invariant_of-self c =
@@ -9,7 +14,8 @@ invariant_of-self c =
     (subst IsTree c.self.view_is c.self.invariant)
 
 pub returns-in_err-push-clause-err : goal.returns-in_err-push-clause-err
-returns-in_err-push-clause-err c = ?
+returns-in_err-push-clause-err c =
+    on_err_true _ (rewritten (λ v. v.items) c.self.inside.lists.items _ _ _ _ c.push.new.self c.self.view_is c.from.ensures c.requires.base_in c.index_mut.ensures.value c.in_err-push.ensures.items)
 
 pub invariant_of-self-2 : goal.invariant_of-self-2
 invariant_of-self-2 c =

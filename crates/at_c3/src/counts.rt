@@ -1,0 +1,75 @@
+//! How often numbers were counted.
+ghost use Rattle.std.specs.Prelude.{◌≡◌, ◌==◌, ◌<◌, ◌++◌, ◌∷◌, [], ℕ, List, not, slice_index, OnOk};
+ghost use Rattle.smallvec.specs.SmallVec.{small_vec_len};
+ghost use Rattle.at_c3.specs.Counts.{AreCountsOf};
+
+use smallvec::SmallVec;
+use std::alloc::{AllocError, Global};
+
+/// How often each number was counted, by number; one past the end was never counted.
+#[derive(Drop)]
+pub struct Counts {
+    counts: SmallVec<u32, 64, Global>,
+}
+
+impl Counts {
+    /// No number counted.
+    pub fn new(alloc: Global) -> Self
+        ensures { AreCountsOf result.counts.items [] }
+    {
+        Counts { counts: SmallVec::new(alloc) }
+    }
+
+    /// Whether the number is counted.
+    pub fn has(&self, number: u16) -> bool
+        ensures { result ≡ not (slice_index self.now.counts.items number == 0) }
+    {
+        self.counts.get(number as usize).is_some_and(|count| *count != 0)
+    }
+
+    /// Makes the table reach beyond the number.
+    fn reach(&mut self, number: u16) -> Result<(), AllocError>
+        ensures reaches { OnOk result (number < small_vec_len self.new.counts) }
+        ensures same { (n : ℕ) → slice_index self.new.counts.items n ≡ slice_index self.old.counts.items n }
+    {
+        while self.counts.len() <= number as usize {
+            self.counts.push(0)?;
+        }
+        Ok(())
+    }
+
+    /// Counts the number once more. A count that would pass 32 bits is answered as want of
+    /// memory.
+    pub fn add(&mut self, number: u16) -> Result<(), AllocError>
+        ensures { OnOk result ((before : List ℕ) → AreCountsOf self.old.counts.items before
+            → AreCountsOf self.new.counts.items (before ++ number ∷ [])) }
+    {
+        self.reach(number)?;
+        let index = number as usize;
+        let Some(more) = self.counts[index].checked_add(1) else {
+            return Err(AllocError);
+        };
+        self.counts[index] = more;
+        Ok(())
+    }
+
+    /// Counts each of the numbers once more.
+    pub fn add_all(&mut self, numbers: &[u16]) -> Result<(), AllocError>
+        ensures { OnOk result ((before : List ℕ) → AreCountsOf self.old.counts.items before
+            → AreCountsOf self.new.counts.items (before ++ numbers.now)) }
+    {
+        for number in numbers {
+            self.add(*number)?;
+        }
+        Ok(())
+    }
+
+    /// Counts the number once less.
+    pub fn remove(&mut self, number: u16)
+        requires { 0 < slice_index self.old.counts.items number }
+        ensures { (others : List ℕ) → AreCountsOf self.old.counts.items (number ∷ others)
+            → AreCountsOf self.new.counts.items others }
+    {
+        self.counts[number as usize] -= 1;
+    }
+}

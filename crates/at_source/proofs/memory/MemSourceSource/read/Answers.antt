@@ -1,0 +1,9 @@
+use Rattle.std.proofs.Common.{◌≡◌, ◌∙◌, ap, sym}
+use Rattle.at_source.specs.Memory.{SourceState}
+use Rattle.at_source.proofs.Pieces.{copied_split}
+use Rattle.at_source.proofs.memory.MemSourceSource.read.Goals as goal
+
+pub returns-clause-front : goal.returns-clause-front
+returns-clause-front c =
+    ap (λ (s : SourceState). s.left) (sym c.self.view_is)
+    ∙ copied_split _ _ _ _ _ c.deref.ensures.value c.copy_front-count.ensures.front

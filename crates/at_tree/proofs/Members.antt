@@ -1,0 +1,47 @@
+-- Lemmas on what a list has.
+use Rattle.std.proofs.Common.{◌≡◌, ℕ, zero, suc, ◌+◌, ◌<◌, List, [], ◌∷◌, ◌++◌, length, get_or, Contains, ◌⊎◌, inl, inr, ⊎_elim, refl, sym, ap, ◌∙◌, subst, arith, length-append}
+
+-- nothing is in the empty list
+pub none_in : {X : Type 0} (x : X) → ¬ Contains [] x
+none_in x h = absurd (omega (arith, h.1))
+
+pub in_here : {X : Type 0} (x : X) (xs : List X) → Contains (x ∷ xs) x
+in_here x xs = (0, (omega arith), refl)
+
+pub in_there : {X : Type 0} (x : X) (xs : List X) (y : X) → Contains xs y → Contains (x ∷ xs) y
+in_there x xs y h = (suc h.0, (omega (arith, h.1)), h.2)
+
+at_cons : {X : Type 0} (x : X) (xs : List X) (y : X) (k : ℕ) → k < length (x ∷ xs) → get_or (x ∷ xs) k y ≡ y → (x ≡ y) ⊎ Contains xs y
+at_cons x xs y zero lt e = inl e
+at_cons x xs y (suc k) lt e = inr (k, (omega (arith, lt)), e)
+
+-- the first, or one after it
+pub in_cons : {X : Type 0} (x : X) (xs : List X) (y : X) → Contains (x ∷ xs) y → (x ≡ y) ⊎ Contains xs y
+in_cons x xs y h = at_cons x xs y h.0 h.1 h.2
+
+-- what stands before and behind an element
+pub parted : {X : Type 0} (xs : List X) (x : X) → Contains xs x → (front : List X) × (back : List X) × (xs ≡ front ++ x ∷ back)
+parted [] x h = absurd (none_in x h)
+parted (y ∷ ys) x h =
+    ⊎_elim
+    (λ e. ([], ys, ap (λ z. z ∷ ys) e))
+    (λ later. let p = parted ys x later in (y ∷ p.0, p.1, ap (λ zs. y ∷ zs) p.2))
+    (in_cons y ys x h)
+
+-- an element of a list with one more at its end is the last, or has its place in the list before
+pub parted_push : {X : Type 0} (xs : List X) (x : X) (front : List X) (y : X) (back : List X) → xs ++ x ∷ [] ≡ front ++ y ∷ back → ((xs ≡ front) × (x ≡ y)) ⊎ ((rest : List X) × (xs ≡ front ++ y ∷ rest))
+parted_push [] x [] y back e = inl (refl, cc)
+parted_push [] x (f ∷ front) y back e = absurd (omega (arith, ap length e, length-append front (y ∷ back)))
+parted_push (z ∷ zs) x [] y back e = let h : z ≡ y = cc in inr (zs, ap (λ w. w ∷ zs) h)
+parted_push (z ∷ zs) x (f ∷ front) y back e =
+    let h : z ≡ f = cc in
+    let t : zs ++ x ∷ [] ≡ front ++ y ∷ back = cc in
+    ⊎_elim
+    (λ p. inl ((ap (λ w. w ∷ zs) h ∙ ap (λ ws. f ∷ ws) p.0), p.1))
+    (λ p. inr (p.0, (ap (λ w. w ∷ zs) h ∙ ap (λ ws. f ∷ ws) p.1)))
+    (parted_push zs x front y back t)
+
+-- an element is where it stands
+pub in_middle : {X : Type 0} (front : List X) (x : X) (back : List X) → Contains (front ++ x ∷ back) x
+in_middle [] x back = in_here x back
+in_middle (f ∷ front) x back = in_there f (front ++ x ∷ back) x (in_middle front x back)

@@ -1,0 +1,103 @@
+-- The walk as a relation, and what is true of its list.
+use Rattle.std.proofs.Common.{◌≡◌, ◌≢◌, ◌↔◌, ℕ, ◌<◌, Bool, List, [], ◌∷◌, ◌++◌, length, get_or, AllPairs, Contains, ◌⊎◌, inl, inr, ⊎_elim, refl, sym, ap, ◌∙◌, subst, arith}
+use Rattle.std.proofs.lemmas.List.Elements.{Contains-append_left, Contains-push, Contains-push_cases, Contains-get_or}
+use Rattle.std.proofs.lemmas.List.Quantifiers.{all_pairs_push}
+use Rattle.at_tree.specs.Tree.{children, entered, IsPath, Reaches, IsTree}
+use Rattle.at_tree.specs.Walk.{IsWalk}
+use Rattle.at_tree.proofs.Members.{none_in, in_here, in_there, in_cons, in_middle, parted, parted_push}
+use Rattle.at_tree.proofs.Paths.{reach_here, reach_step, reach_unmarked, child_from_entered}
+
+-- the list once these classes are in it, one after another, each behind what it adds
+pub data Walks (tree : List (List ℕ)) (stop : List Bool) : List ℕ → List ℕ → List ℕ → Type 0 where
+  done : {list : List ℕ} → Walks tree stop list [] list
+  again : {list : List ℕ} {c : ℕ} {cs out : List ℕ} → Contains list c → Walks tree stop list cs out → Walks tree stop list (c ∷ cs) out
+  first : {list : List ℕ} {c : ℕ} {cs out mid : List ℕ} → ¬ Contains list c → Walks tree stop list (entered tree stop c) mid → Walks tree stop (mid ++ c ∷ []) cs out → Walks tree stop list (c ∷ cs) out
+
+-- each class stands behind what is entered from it
+pub record IsOrdered (tree : List (List ℕ)) (stop : List Bool) (list : List ℕ) : Type 0 where
+  pub before : (front back : List ℕ) (d e : ℕ) → list ≡ front ++ d ∷ back → Contains (entered tree stop d) e → Contains front e
+
+module _ (tree : List (List ℕ)) (stop : List Bool) where
+  -- what was in the list stays
+  pub kept : (list cs out : List ℕ) → Walks tree stop list cs out → (d : ℕ) → Contains list d → Contains out d
+  kept list [] out done d h = h
+  kept list (c ∷ cs) out (again seen w) d h = kept list cs out w d h
+  kept list (c ∷ cs) out (first {mid = mid} new v w) d h =
+      kept (mid ++ c ∷ []) cs out w d (Contains-append_left mid (c ∷ []) d (kept list (entered tree stop c) mid v d h))
+
+  -- each class that the walk comes to is in the list
+  pub listed : (list cs out : List ℕ) → Walks tree stop list cs out → (e : ℕ) → Contains cs e → Contains out e
+  listed list [] out done e h = absurd (none_in e h)
+  listed list (c ∷ cs) out (again seen w) e h =
+      ⊎_elim (λ at. subst (Contains out) at (kept list cs out w c seen)) (listed list cs out w e) (in_cons c cs e h)
+  listed list (c ∷ cs) out (first {mid = mid} new v w) e h =
+      ⊎_elim (λ at. subst (Contains out) at (kept (mid ++ c ∷ []) cs out w c (Contains-push mid c))) (listed (mid ++ c ∷ []) cs out w e) (in_cons c cs e h)
+
+  -- what is in the list was in it, or is reached from a class that the walk comes to
+  pub reached_from : (list cs out : List ℕ) → Walks tree stop list cs out → (d : ℕ) → Contains out d → Contains list d ⊎ ((e : ℕ) × Contains cs e × Reaches tree stop e d)
+  reached_from list [] out done d h = inl h
+  reached_from list (c ∷ cs) out (again seen w) d h =
+      ⊎_elim inl (λ r. inr (r.0, (in_there c cs r.0 r.1), r.2)) (reached_from list cs out w d h)
+  reached_from list (c ∷ cs) out (first {mid = mid} new v w) d h =
+      ⊎_elim
+      (λ before. ⊎_elim
+          (λ in_mid. ⊎_elim
+              inl
+              (λ r. inr (c, (in_here c cs), (reach_step tree stop c r.0 d r.1 r.2)))
+              (reached_from list (entered tree stop c) mid v d in_mid))
+          (λ at. inr (c, (in_here c cs), (reach_here tree stop c d at)))
+          (Contains-push_cases mid c d before))
+      (λ r. inr (r.0, (in_there c cs r.0 r.1), r.2))
+      (reached_from (mid ++ c ∷ []) cs out w d h)
+
+  -- the order is kept
+  pub ordered : (list cs out : List ℕ) → Walks tree stop list cs out → IsOrdered tree stop list → IsOrdered tree stop out
+  ordered list [] out done o = o
+  ordered list (c ∷ cs) out (again seen w) o = ordered list cs out w o
+  ordered list (c ∷ cs) out (first {mid = mid} new v w) o =
+      let all : (e : ℕ) → Contains (entered tree stop c) e → Contains mid e = listed list (entered tree stop c) mid v in
+      let m : IsOrdered tree stop mid = ordered list (entered tree stop c) mid v o in
+      ordered (mid ++ c ∷ []) cs out w (record {
+        before = λ front back d e at h. ⊎_elim
+            (λ last. subst (λ xs. Contains xs e) last.0 (all e (subst (λ x. Contains (entered tree stop x) e) (sym last.1) h)))
+            (λ p. m.before front p.0 d e p.1 h)
+            (parted_push mid c front d back at);
+      })
+
+  -- what is reached from a class of an ordered list is in the list
+  pub closed : (list : List ℕ) → IsOrdered tree stop list → (c : ℕ) (path : List ℕ) (d : ℕ) → Contains list c → IsPath tree stop c path d → Contains list d
+  closed list o c [] d h p = subst (Contains list) p h
+  closed list o c (e ∷ path) d h p =
+      let at = parted list c h in
+      let before : Contains at.0 e = o.before at.0 at.1 c e at.2 p.0 in
+      closed list o e path d (subst (λ xs. Contains xs e) (sym at.2) (Contains-append_left at.0 (c ∷ at.1) e before)) p.1
+
+  module _ (t : IsTree tree) where
+    -- a class isn't in the list once what is entered from it is
+    pub new_behind : (list mid : List ℕ) (c : ℕ) → ¬ Contains list c → Walks tree stop list (entered tree stop c) mid → ¬ Contains mid c
+    new_behind list mid c new v h =
+        ⊎_elim new (λ r. t.acyclic c r.0 (child_from_entered tree stop c r.0 r.1) (reach_unmarked tree stop r.0 c r.2)) (reached_from list (entered tree stop c) mid v c h)
+
+    -- no class is added twice
+    pub once_each : (list cs out : List ℕ) → Walks tree stop list cs out → AllPairs (λ x y. x ≢ y) list → AllPairs (λ x y. x ≢ y) out
+    once_each list [] out done o = o
+    once_each list (c ∷ cs) out (again seen w) o = once_each list cs out w o
+    once_each list (c ∷ cs) out (first {mid = mid} new v w) o =
+        once_each (mid ++ c ∷ []) cs out w (all_pairs_push (λ x y. x ≢ y) mid c (once_each list (entered tree stop c) mid v o)
+        (λ k d lt e. new_behind list mid c new v (subst (Contains mid) e (Contains-get_or mid k d lt))))
+
+    -- the list of the walk from one class
+    pub walk_from : (c : ℕ) (out : List ℕ) → Walks tree stop [] (c ∷ []) out → IsWalk tree stop c out
+    walk_from c out w =
+        let o : IsOrdered tree stop out = ordered [] (c ∷ []) out w (record { before = λ front back d e at h. absurd (none_in d (subst (λ xs. Contains xs d) (sym at) (in_middle front d back))) }) in
+        record {
+          once = once_each [] (c ∷ []) out w (λ i j d _ lt. absurd (omega arith));
+          reached = λ d. (
+              (λ h. ⊎_elim
+                  (λ none. absurd (none_in d none))
+                  (λ r. ⊎_elim (λ at. subst (λ x. Reaches tree stop x d) (sym at) r.2) (λ none. absurd (none_in r.0 none)) (in_cons c [] r.0 r.1))
+                  (reached_from [] (c ∷ []) out w d h)),
+              (λ r. closed out o c r.0 d (listed [] (c ∷ []) out w c (in_here c [])) r.1)
+          );
+          subclasses_first = o.before;
+        }

@@ -1,0 +1,23 @@
+-- The list of a class and of all that lies below it, a class after its subclasses.
+use Rattle.std.specs.Prelude.{◌≡◌, ◌≢◌, ◌↔◌, ℕ, zero, suc, Bool, nat_eq, if◌then◌else◌, List, [], ◌∷◌, ◌++◌, length, fold, AllPairs, Contains}
+use Rattle.std.specs.List.{list_any}
+use Rattle.at_tree.specs.Tree.{entered, Reaches}
+
+-- The list once the class is in it: as it is where it has the class already; else with what the direct subclasses
+-- add, one after another, and then with the class. `depth` bounds how many classes lie under one another.
+abbrev pub walked : ℕ → List (List ℕ) → List Bool → List ℕ → ℕ → List ℕ
+walked zero tree stop list c = list
+walked (suc depth) tree stop list c = if list_any (nat_eq c) list then list else fold (walked depth tree stop) list (entered tree stop c) ++ c ∷ []
+
+-- the walk from a class; no more classes than there are lie under one another
+abbrev pub walk_of : List (List ℕ) → List Bool → ℕ → List ℕ
+walk_of tree stop c = walked (length tree) tree stop [] c
+
+-- What a reader wants of the walk from c.
+pub record IsWalk (tree : List (List ℕ)) (stop : List Bool) (c : ℕ) (list : List ℕ) : Type 0 where
+  -- no class is in the list twice
+  pub once : AllPairs (λ x y. x ≢ y) list
+  -- what is in the list is what is reached through no marked class
+  pub reached : (d : ℕ) → Contains list d ↔ Reaches tree stop c d
+  -- the direct subclasses of each class stand before it, where it isn't marked
+  pub subclasses_first : (front back : List ℕ) (d e : ℕ) → list ≡ front ++ d ∷ back → Contains (entered tree stop d) e → Contains front e

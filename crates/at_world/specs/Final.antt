@@ -1,0 +1,25 @@
+-- The final namespaces: what a transcript tells of a world at its end.
+use Rattle.std.specs.Prelude.{ℕ, suc, List, [], ◌∷◌, map, Option, Some, None}
+use Rattle.at_world.specs.declared.last.ClassEnd.{ClassEnd}
+use Rattle.at_world.specs.declared.last.ObjEnd.{ObjEnd}
+use Rattle.at_world.specs.declared.last.Final as final
+use Rattle.at_world.specs.World.{World, ClassRow, Object, order_of}
+use Rattle.at_world.specs.Attributes.{dict_of}
+
+abbrev pub order_or_none : Option (List ℕ) → List ℕ
+order_or_none None = []
+order_or_none (Some order) = order
+
+-- the classes that are made, from this number on: their orders and own names
+abbrev pub class_ends : World → ℕ → List (Option ClassRow) → List ClassEnd
+class_ends w c [] = []
+class_ends w c (None ∷ rows) = class_ends w (suc c) rows
+class_ends w c (Some row ∷ rows) = record { class = c; order = order_or_none (order_of w c); own = row.own } ∷ class_ends w (suc c) rows
+
+-- the class and the names of an object
+abbrev pub object_end : World → Object → ObjEnd
+object_end w object = record { class = object.class; own = dict_of w object }
+
+-- the order and own names of each class that is made, and the class and names of each object, by rising number
+abbrev pub final_of : World → final.Final
+final_of w = record { classes = class_ends w 0 w.classes; objects = map (object_end w) w.objects }

@@ -1,0 +1,6 @@
+pub mod World
+pub mod Binding
+pub mod Attributes
+pub mod Step
+pub mod History
+pub mod Final

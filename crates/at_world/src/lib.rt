@@ -1,0 +1,15 @@
+//! The data model: worlds of classes, objects and dictionaries, what each operation does to one, and the lines and the
+//! final namespaces that a run tells of.
+#![tactic(auto)]
+
+mod binding;
+mod last;
+mod line;
+mod plain;
+#[cfg(test)]
+mod tests;
+
+pub use binding::{Step, Three, bind_get, bind_set};
+pub use last::{ClassEnd, ClassEnds, Final, ObjEnd, ObjEnds, Ran};
+pub use line::{Line, LineOp, LineReply, Lines, Local, What};
+pub use plain::Plain;

@@ -1,0 +1,4 @@
+//! The data model, run as it is written.
+
+/// Empty for now.
+pub struct Plain;
