@@ -61,10 +61,9 @@ stands_of lists (x ∷ xs) fails = Any-from_has (drop 1) x lists (not-false (sta
 
 is_next-from_head : (lists : List (List ℕ)) (c : ℕ) → next_head lists ≡ Some c → IsNextHead lists c
 is_next-from_head lists c is =
-    let found = found-from_find (λ head. not (stands_in_a_tail lists head)) lists c is in
-    (
+    let found = found-from_find (λ head. not (stands_in_a_tail lists head)) lists c is in (
       λ some. both_ways (stands_in_a_tail lists c) (not-true (stands_in_a_tail lists c) found.passes) (has-from_Any (drop 1) c lists some),
-      (found.before, found.tail, found.after, found.whole, All-weaker (Fails (λ head. not (stands_in_a_tail lists head))) (λ list. IfSome (slice_get list 0) (StandsInATail lists)) (stands_of lists) found.before found.fail)
+      (found.before, found.tail, found.after, found.whole, All-weaker (Fails (λ head. not (stands_in_a_tail lists head))) (λ list. IfSome (slice_get list 0) (StandsInATail lists)) (stands_of lists) found.before found.fail),
     )
 
 fails_of : (lists : List (List ℕ)) (list : List ℕ) → IfSome (slice_get list 0) (StandsInATail lists) → Fails (λ head. not (stands_in_a_tail lists head)) list

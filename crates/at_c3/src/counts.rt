@@ -17,14 +17,18 @@ impl Counts {
     pub fn new(alloc: Global) -> Self
         ensures { AreCountsOf result.counts.items [] }
     {
-        Counts { counts: SmallVec::new(alloc) }
+        Counts {
+            counts: SmallVec::new(alloc),
+        }
     }
 
     /// Whether the number is counted.
     pub fn has(&self, number: u16) -> bool
         ensures { result ≡ not (slice_index self.now.counts.items number == 0) }
     {
-        self.counts.get(number as usize).is_some_and(|count| *count != 0)
+        self.counts
+            .get(number as usize)
+            .is_some_and(|count| *count != 0)
     }
 
     /// Makes the table reach beyond the number.

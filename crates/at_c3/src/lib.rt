@@ -2,10 +2,12 @@
 //! Monotonic Superclass Linearization for Dylan", 1996; Python's method resolution order).
 #![tactic(auto)]
 
-pub mod laws;
 mod counts;
+mod fault;
+pub mod laws;
 mod merging;
 #[cfg(test)]
 mod tests;
 
-pub use merging::{List, MergeFault, merge, order, order_of_slices};
+pub use fault::MergeFault;
+pub use merging::{List, merge, order, order_of_slices};

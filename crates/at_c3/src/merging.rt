@@ -1,10 +1,13 @@
 //! The merge of lists, and the order of a class.
-ghost use Rattle.std.specs.Prelude.{◌≡◌, ◌==◌, drop, ◌++◌, ◌∷◌, [], ℕ, Some, None, map, not, IfOk, IsErr, IsSome, IsErrOf, IsOkUnless};
-ghost use Rattle.std.specs.List.{list_all, list_any};
-ghost use Rattle.at_c3.specs.Merge.{contents, is_empty, stands_in_a_tail, next_head, without_head, merge_of, prefixed, order_of_lists};
+ghost use Rattle.std.specs.Prelude.{◌≡◌, ◌++◌, ◌∷◌, [], ℕ, List, drop, Some, None, map, OnOk, IfOk, IsErr, IsSome, IsErrOf, IsOkUnless};
+ghost use Rattle.std.specs.List.{list_all};
+ghost use Rattle.at_c3.specs.Counts.{AreCountsOf, tail_numbers};
+ghost use Rattle.at_c3.specs.Merge.{contents, is_empty, next_head, without_head, merge_of, prefixed, order_of_lists};
 
+use crate::counts::Counts;
+use crate::fault::MergeFault;
 use smallvec::SmallVec;
-use std::alloc::{AllocError, AllocFailed, Global};
+use std::alloc::{AllocError, Global};
 
 /// A list of numbers; one of at most eight takes no memory.
 pub type List = SmallVec<u16, 8, Global>;
@@ -12,56 +15,35 @@ pub type List = SmallVec<u16, 8, Global>;
 /// What is left of the lists of a merge: those of up to eight bases, and the list of bases.
 type Rests<'a> = SmallVec<&'a [u16], 9, Global>;
 
-/// Why a merge is not given.
-#[derive(Clone, Copy, Debug, PartialEq, Eq)]
-pub enum MergeFault {
-    /// The lists have no merge: each head that is left stands in some tail.
-    NoHead,
-    /// Memory ran out.
-    NoMemory,
-}
-
-impl From<AllocError> for MergeFault {
-    ghost use Rattle.at_c3.specs.declared.merging.MergeFault.TheVariants.{NoMemory};
-
-    ghost from_gives = { λ _ fault. fault ≡ NoMemory };
-
-    fn from(_: AllocError) -> Self {
-        MergeFault::NoMemory
+/// The list without its head.
+fn tail_of(list: &[u16]) -> &[u16]
+    ensures { result.now ≡ drop 1 list.now }
+{
+    match list.split_first() {
+        Some((_, tail)) => tail,
+        None => list,
     }
 }
 
-impl<T: Drop> From<AllocFailed<T>> for MergeFault {
-    ghost use Rattle.at_c3.specs.declared.merging.MergeFault.TheVariants.{NoMemory};
-
-    ghost from_gives = { λ _ fault. fault ≡ NoMemory };
-
-    fn from(_: AllocFailed<T>) -> Self {
-        MergeFault::NoMemory
+/// Counts the numbers in the tails of the lists.
+fn count_tails(counts: &mut Counts, lists: &[&[u16]]) -> Result<(), AllocError>
+    ensures { OnOk result (AreCountsOf counts.old.counts.items [] → AreCountsOf counts.new.counts.items (tail_numbers (contents lists.now))) }
+{
+    for list in lists {
+        counts.add_all(tail_of(list))?;
     }
+    Ok(())
 }
 
-/// Whether the number stands in the tail of the list.
-fn is_in_tail(number: u16, list: &[u16]) -> bool
-    ensures { result ≡ list_any (λ x. x == number) (drop 1 list.now) }
-{
-    list.iter().skip(1).any(|x| *x == number)
-}
-
-/// Whether the number stands in the tail of some list.
-fn is_in_a_tail(number: u16, lists: &[&[u16]]) -> bool
-    ensures { result ≡ stands_in_a_tail (contents lists.now) number }
-{
-    lists.iter().any(|list| is_in_tail(number, list))
-}
-
-/// The head of the first list whose head stands in no tail.
-fn first_free_head(lists: &[&[u16]]) -> Option<u16>
+/// The head of the first list whose head stands in no tail, where the numbers in the tails are
+/// counted.
+fn first_free_head(lists: &[&[u16]], in_tails: &Counts) -> Option<u16>
+    requires { AreCountsOf in_tails.now.counts.items (tail_numbers (contents lists.now)) }
     ensures { result ≡ next_head (contents lists.now) }
 {
     for list in lists {
         if let Some(head) = list.first()
-            && !is_in_a_tail(*head, lists)
+            && !in_tails.has(*head)
         {
             return Some(*head);
         }
@@ -69,22 +51,34 @@ fn first_free_head(lists: &[&[u16]]) -> Option<u16>
     None
 }
 
-/// The list without its head, where that is the number.
-fn after_head(number: u16, list: &[u16]) -> &[u16]
-    ensures { result.now ≡ without_head number list.now }
+/// The list without its head, where that is the number: then what was next in the list is no
+/// more in its tail.
+fn after_head<'a>(number: u16, list: &'a [u16], in_tails: &mut Counts) -> &'a [u16]
+    requires { (others : List ℕ) × AreCountsOf in_tails.old.counts.items (drop 1 list.now ++ others) }
+    ensures rest { result.now ≡ without_head number list.now }
+    ensures counts { (others : List ℕ) → AreCountsOf in_tails.old.counts.items (drop 1 list.now ++ others)
+        → AreCountsOf in_tails.new.counts.items (drop 1 result.now ++ others) }
 {
     match list.split_first() {
-        Some((head, tail)) if *head == number => tail,
+        Some((head, rest)) if *head == number => {
+            if let Some(next) = rest.first() {
+                in_tails.remove(*next);
+            }
+            rest
+        }
         _ => list,
     }
 }
 
-/// Takes the number from the head of each list that begins with it.
-fn remove_head(number: u16, lists: &mut [&[u16]])
-    ensures { contents lists.new ≡ map (without_head number) (contents lists.old) }
+/// Takes the number from the head of each list that begins with it, and keeps the counts of
+/// the numbers in the tails.
+fn remove_head(number: u16, lists: &mut [&[u16]], in_tails: &mut Counts)
+    requires { AreCountsOf in_tails.old.counts.items (tail_numbers (contents lists.old)) }
+    ensures rests { contents lists.new ≡ map (without_head number) (contents lists.old) }
+    ensures counts { AreCountsOf in_tails.new.counts.items (tail_numbers (contents lists.new)) }
 {
     for list in lists.iter_mut() {
-        *list = after_head(number, list);
+        *list = after_head(number, list, in_tails);
     }
 }
 
@@ -95,18 +89,30 @@ fn are_all_empty(lists: &[&[u16]]) -> bool
     lists.iter().all(|list| list.is_empty())
 }
 
+/// The length of the longest list, and so no more than that of the merge.
+fn longest_len(lists: &[&[u16]]) -> usize {
+    lists.iter().map(|list| list.len()).max().unwrap_or(0)
+}
+
 /// Adds the merge of the lists to what stands before it.
-fn merge_onto(mut merged: List, rests: &mut [&[u16]]) -> Result<List, MergeFault>
+fn merge_onto(alloc: Global, mut merged: List, rests: &mut [&[u16]]) -> Result<List, MergeFault>
     ensures merged { IfOk result (λ list. prefixed merged.items (merge_of (contents rests.old)) ≡ Some list.items) }
     ensures no_head { IsErrOf result MergeFault.NoHead → prefixed merged.items (merge_of (contents rests.old)) ≡ None }
     ensures none { prefixed merged.items (merge_of (contents rests.old)) ≡ None → IsErr result }
     ensures some { IsSome (prefixed merged.items (merge_of (contents rests.old))) → IsOkUnless result MergeFault.NoMemory }
 {
-    while let Some(head) = first_free_head(rests) {
+    merged.reserve(longest_len(rests))?;
+    let mut in_tails = Counts::new(alloc);
+    count_tails(&mut in_tails, rests)?;
+    while let Some(head) = first_free_head(rests, &in_tails) {
         merged.push(head)?;
-        remove_head(head, rests);
+        remove_head(head, rests, &mut in_tails);
     }
-    if are_all_empty(rests) { Ok(merged) } else { Err(MergeFault::NoHead) }
+    if are_all_empty(rests) {
+        Ok(merged)
+    } else {
+        Err(MergeFault::NoHead)
+    }
 }
 
 /// The slices of the lists, with room for one more.
@@ -125,22 +131,22 @@ fn slices_of<'a>(alloc: Global, lists: &'a [List]) -> Result<Rests<'a>, MergeFau
 /// The C3 merge of the lists: while any number is left, the head of the first list whose head
 /// stands in no tail, taken from all heads.
 ///
-/// `NoHead` where the lists have no merge, since each head that is left stands in some tail;
-/// `NoMemory` where memory ran out, which may come in place of either other answer.
+/// `NoHead` where the lists have no merge, since each head that is left stands in some tail.
+/// `NoMemory` where memory ran out, or where a number stands in the tails 2^32 times; it may
+/// come in place of either other answer.
 pub fn merge(alloc: Global, lists: &[List]) -> Result<List, MergeFault>
     ensures merged { IfOk result (λ list. merge_of (map (λ l. l.items) lists.now) ≡ Some list.items) }
     ensures no_head { IsErrOf result MergeFault.NoHead → merge_of (map (λ l. l.items) lists.now) ≡ None }
     ensures none { merge_of (map (λ l. l.items) lists.now) ≡ None → IsErr result }
     ensures some { IsSome (merge_of (map (λ l. l.items) lists.now)) → IsOkUnless result MergeFault.NoMemory }
 {
-    merge_onto(SmallVec::new(alloc), &mut slices_of(alloc, lists)?)
+    merge_onto(alloc, SmallVec::new(alloc), &mut slices_of(alloc, lists)?)
 }
 
 /// The order of class `c`, where each of its bases has its order in `orders`: `c`, and then the
 /// merge of these orders and of the list of bases.
 ///
-/// `NoHead` where they have no merge; `NoMemory` where memory ran out, which may come in place
-/// of either other answer.
+/// `NoHead` where they have no merge, `NoMemory` as [`merge`] answers it.
 pub fn order(alloc: Global, c: u16, bases: &[u16], orders: &[List]) -> Result<List, MergeFault>
     ensures ordered { IfOk result (λ list. order_of_lists c bases.now (map (λ l. l.items) orders.now) ≡ Some list.items) }
     ensures no_head { IsErrOf result MergeFault.NoHead → order_of_lists c bases.now (map (λ l. l.items) orders.now) ≡ None }
@@ -166,5 +172,5 @@ pub fn order_of_slices<'a>(
     rests.push(bases)?;
     let mut front = SmallVec::new(alloc);
     front.push(c)?;
-    merge_onto(front, &mut rests)
+    merge_onto(alloc, front, &mut rests)
 }

@@ -1,3 +1,4 @@
 pub mod Faults
 pub mod Memory
+pub mod Page
 pub mod Whole

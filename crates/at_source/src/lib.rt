@@ -3,13 +3,17 @@
 
 mod bytes;
 mod memory;
+mod page;
 mod sink;
 mod source;
 mod standard;
 mod sure;
+#[cfg(test)]
+mod tests;
 mod whole;
 
 pub use memory::{MemSink, MemSource};
+pub use page::Page;
 pub use sink::Sink;
 pub use source::{Failed, Source};
 pub use standard::{StdSink, StdSource};

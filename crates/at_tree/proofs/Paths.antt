@@ -1,5 +1,7 @@
 -- Lemmas on what is reached in a tree.
-use Rattle.std.proofs.Common.{◌≡◌, ◌≢◌, ℕ, ◌+◌, ◌<◌, Bool, true, false, cond, List, [], ◌∷◌, ◌++◌, length, get_or, Contains, ◌⊎◌, inl, inr, refl, sym, ap, ◌∙◌, subst, arith, rules}
+use Rattle.std.proofs.Common.{◌≡◌, ◌≢◌, ℕ, ◌+◌, ◌<◌, Bool, true, false, cond, List, [], ◌∷◌, ◌++◌, length, get_or, All, Contains, ◌⊎◌, inl, inr, ⊎_elim, refl, sym, ap, ◌∙◌, subst, arith, rules}
+use Rattle.std.proofs.lemmas.Bool.{cases_lt}
+use Rattle.std.proofs.lemmas.List.{get_or_past}
 use Rattle.at_tree.specs.Tree.{children, entered, IsPath, Reaches, IsTree}
 use Rattle.at_tree.proofs.Members.{none_in}
 
@@ -41,3 +43,25 @@ reach_unmarked tree stop c d r = path_unmarked tree stop c r.0 d r.1
 pub path_more : (small tree : List (List ℕ)) → ((c e : ℕ) → Contains (children small c) e → Contains (children tree c) e) → (c : ℕ) (path : List ℕ) (d : ℕ) → IsPath small [] c path d → Reaches tree [] c d
 path_more small tree more c [] d p = ([], p)
 path_more small tree more c (e ∷ path) d p = reach_step tree [] c e d (more c e p.0) (path_more small tree more e path d p.1)
+
+-- where nothing is marked, each direct subclass is entered
+entered_all : (tree : List (List ℕ)) (stop : List Bool) → All (λ marked. marked ≡ false) stop → (c : ℕ) → entered tree stop c ≡ children tree c
+entered_all tree stop none c =
+    ap (λ b. cond b [] (children tree c)) (⊎_elim (λ lt. none c false lt) (λ le. get_or_past stop c false le) (cases_lt c (length stop)))
+
+path_all : (tree : List (List ℕ)) (stop : List Bool) → All (λ marked. marked ≡ false) stop → (c : ℕ) (path : List ℕ) (d : ℕ) → IsPath tree [] c path d → Reaches tree stop c d
+path_all tree stop none c [] d p = ([], p)
+path_all tree stop none c (e ∷ path) d p =
+    reach_step tree stop c e d (subst (λ list. Contains list e) (sym (entered_all tree stop none c)) p.0) (path_all tree stop none e path d p.1)
+
+-- where nothing is marked, all is reached
+pub reach_all : (tree : List (List ℕ)) (stop : List Bool) → All (λ marked. marked ≡ false) stop → (c d : ℕ) → Reaches tree [] c d → Reaches tree stop c d
+reach_all tree stop none c d r = path_all tree stop none c r.0 d r.1
+
+-- what is reached from a class of the tree is one
+path_in : (tree : List (List ℕ)) (t : IsTree tree) (c : ℕ) (path : List ℕ) (d : ℕ) → c < length tree → IsPath tree [] c path d → d < length tree
+path_in tree t c [] d lt p = subst (λ x. x < length tree) p lt
+path_in tree t c (e ∷ path) d lt p = path_in tree t e path d (t.numbers c e p.0) p.1
+
+pub reach_in : (tree : List (List ℕ)) (t : IsTree tree) (c d : ℕ) → c < length tree → Reaches tree [] c d → d < length tree
+reach_in tree t c d lt r = path_in tree t c r.0 d lt r.1

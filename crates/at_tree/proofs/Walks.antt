@@ -1,11 +1,11 @@
 -- The walk as a relation, and what is true of its list.
-use Rattle.std.proofs.Common.{◌≡◌, ◌≢◌, ◌↔◌, ℕ, ◌<◌, Bool, List, [], ◌∷◌, ◌++◌, length, get_or, AllPairs, Contains, ◌⊎◌, inl, inr, ⊎_elim, refl, sym, ap, ◌∙◌, subst, arith}
+use Rattle.std.proofs.Common.{◌≡◌, ◌≢◌, ◌↔◌, ℕ, ◌<◌, Bool, false, List, [], ◌∷◌, ◌++◌, length, get_or, All, AllPairs, Contains, ◌⊎◌, inl, inr, ⊎_elim, refl, sym, ap, ◌∙◌, subst, arith}
 use Rattle.std.proofs.lemmas.List.Elements.{Contains-append_left, Contains-push, Contains-push_cases, Contains-get_or}
 use Rattle.std.proofs.lemmas.List.Quantifiers.{all_pairs_push}
 use Rattle.at_tree.specs.Tree.{children, entered, IsPath, Reaches, IsTree}
 use Rattle.at_tree.specs.Walk.{IsWalk}
 use Rattle.at_tree.proofs.Members.{none_in, in_here, in_there, in_cons, in_middle, parted, parted_push}
-use Rattle.at_tree.proofs.Paths.{reach_here, reach_step, reach_unmarked, child_from_entered}
+use Rattle.at_tree.proofs.Paths.{reach_here, reach_step, reach_unmarked, reach_all, reach_in, child_from_entered}
 
 -- the list once these classes are in it, one after another, each behind what it adds
 pub data Walks (tree : List (List ℕ)) (stop : List Bool) : List ℕ → List ℕ → List ℕ → Type 0 where
@@ -87,17 +87,22 @@ module _ (tree : List (List ℕ)) (stop : List Bool) where
         (λ k d lt e. new_behind list mid c new v (subst (Contains mid) e (Contains-get_or mid k d lt))))
 
     -- the list of the walk from one class
-    pub walk_from : (c : ℕ) (out : List ℕ) → Walks tree stop [] (c ∷ []) out → IsWalk tree stop c out
-    walk_from c out w =
+    pub walk_from : (c : ℕ) (out : List ℕ) → c < length tree → Walks tree stop [] (c ∷ []) out → IsWalk tree stop c out
+    walk_from c out lt w =
         let o : IsOrdered tree stop out = ordered [] (c ∷ []) out w (record { before = λ front back d e at h. absurd (none_in d (subst (λ xs. Contains xs d) (sym at) (in_middle front d back))) }) in
+        let sound : (d : ℕ) → Contains out d → Reaches tree stop c d =
+            λ d h. ⊎_elim
+                (λ none. absurd (none_in d none))
+                (λ r. ⊎_elim (λ at. subst (λ x. Reaches tree stop x d) (sym at) r.2) (λ none. absurd (none_in r.0 none)) (in_cons c [] r.0 r.1))
+                (reached_from [] (c ∷ []) out w d h) in
         record {
-          once = once_each [] (c ∷ []) out w (λ i j d _ lt. absurd (omega arith));
-          reached = λ d. (
-              (λ h. ⊎_elim
-                  (λ none. absurd (none_in d none))
-                  (λ r. ⊎_elim (λ at. subst (λ x. Reaches tree stop x d) (sym at) r.2) (λ none. absurd (none_in r.0 none)) (in_cons c [] r.0 r.1))
-                  (reached_from [] (c ∷ []) out w d h)),
-              (λ r. closed out o c r.0 d (listed [] (c ∷ []) out w c (in_here c [])) r.1)
-          );
+          numbers = λ k d in_out. reach_in tree t c _ lt (reach_unmarked tree stop c _ (sound _ (Contains-get_or out k d in_out)));
+          once = once_each [] (c ∷ []) out w (λ i j d _ none. absurd (omega arith));
+          reached = λ d. (sound d, (λ r. closed out o c r.0 d (listed [] (c ∷ []) out w c (in_here c [])) r.1));
           subclasses_first = o.before;
         }
+
+-- where nothing is marked, the list of a walk has exactly what lies below its class
+pub walk_unmarked : (tree : List (List ℕ)) (stop : List Bool) (c : ℕ) (out : List ℕ) → IsWalk tree stop c out → All (λ marked. marked ≡ false) stop → (d : ℕ) → Contains out d ↔ Reaches tree [] c d
+walk_unmarked tree stop c out w none d =
+    ((λ h. reach_unmarked tree stop c d ((w.reached d).0 h)), (λ r. (w.reached d).1 (reach_all tree stop none c d r)))

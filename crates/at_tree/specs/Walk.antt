@@ -1,5 +1,5 @@
 -- The list of a class and of all that lies below it, a class after its subclasses.
-use Rattle.std.specs.Prelude.{◌≡◌, ◌≢◌, ◌↔◌, ℕ, zero, suc, Bool, nat_eq, if◌then◌else◌, List, [], ◌∷◌, ◌++◌, length, fold, AllPairs, Contains}
+use Rattle.std.specs.Prelude.{◌≡◌, ◌≢◌, ◌↔◌, ℕ, zero, suc, ◌<◌, Bool, nat_eq, if◌then◌else◌, List, [], ◌∷◌, ◌++◌, length, fold, All, AllPairs, Contains}
 use Rattle.std.specs.List.{list_any}
 use Rattle.at_tree.specs.Tree.{entered, Reaches}
 
@@ -15,6 +15,8 @@ walk_of tree stop c = walked (length tree) tree stop [] c
 
 -- What a reader wants of the walk from c.
 pub record IsWalk (tree : List (List ℕ)) (stop : List Bool) (c : ℕ) (list : List ℕ) : Type 0 where
+  -- each is a class of the tree
+  pub numbers : All (λ d. d < length tree) list
   -- no class is in the list twice
   pub once : AllPairs (λ x y. x ≢ y) list
   -- what is in the list is what is reached through no marked class

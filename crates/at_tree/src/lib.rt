@@ -1,10 +1,14 @@
 //! The tree of direct subclasses, and the walk over all that lies below a class.
 #![tactic(auto)]
 
-ghost use Rattle.std.specs.Prelude.{◌≡◌, ◌<◌, [], ◌∷◌, ◌++◌, length, replicate, Contains, IfOk, OnOk, OnErr, slice_set};
-ghost use Rattle.at_tree.specs.Tree.{children, without, Reaches};
+ghost use Rattle.std.specs.Prelude.{◌≡◌, ◌↔◌, ℕ, ◌<◌, false, [], ◌∷◌, ◌++◌, length, replicate, All, Contains, IfOk, OnOk, OnErr, slice_set};
+ghost use Rattle.at_tree.specs.Tree.{children, without, Reaches, IsTree};
+ghost use Rattle.at_tree.specs.Walk.{IsWalk, walk_of};
 
 mod walk;
+
+#[cfg(test)]
+mod tests;
 
 use std::alloc::{AllocError, Global};
 use std::marker::Model;
@@ -42,7 +46,8 @@ impl Tree {
 
     /// How many classes there are.
     pub fn size(&self) -> u16
-        ensures { result ≡ length self.now }
+        ensures value { result ≡ length self.now }
+        ensures tree { IsTree self.now }
     {
         self.lists.len() as u16
     }
@@ -67,6 +72,21 @@ impl Tree {
         ensures { self.new ≡ slice_set self.old base (without (children self.old base) c) }
     {
         take_out(&mut self.lists[usize::from(base)], c);
+    }
+
+    /// The class and all that lies below it, each once, a class after its subclasses; the direct subclasses of a
+    /// class in the order of its list.
+    ///
+    /// Below a class that `stop` marks, by its number, nothing is entered. The marked class itself is in the list.
+    pub fn below(&self, c: u16, stop: &[bool]) -> Result<Vec<u16>, AllocError>
+        requires class_in { c < length self.now }
+        requires marks { length stop.now ≡ length self.now }
+        ensures walk { IfOk result (λ list. IsWalk self.now stop.now c list.items) }
+        ensures unmarked { IfOk result (λ list. All (λ marked. marked ≡ false) stop.now
+            → (d : ℕ) → Contains list.items d ↔ Reaches self.now [] c d) }
+        ensures exact { IfOk result (λ list. list.items ≡ walk_of self.now stop.now c) }
+    {
+        walk::post_order(*self.lists.allocator(), &self.lists, stop, c)
     }
 }
 

@@ -54,10 +54,12 @@ pub fn post_order(
             next: stage.next + 1,
             ..stage
         })?;
-        if !seen[usize::from(d)] {
-            seen[usize::from(d)] = true;
-            stages.push(Stage { class: d, next: 0 })?;
+        let below = usize::from(d);
+        if seen[below] {
+            continue;
         }
+        seen[below] = true;
+        stages.push(Stage { class: d, next: 0 })?;
     }
     Ok(list)
 }

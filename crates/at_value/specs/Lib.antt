@@ -1,5 +1,6 @@
 pub mod Numbers
 pub mod Parts
 pub mod Properties
+pub mod Classes
 pub mod Lists
 pub mod Pairs

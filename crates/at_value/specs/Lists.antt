@@ -1,12 +1,8 @@
--- Lists of classes, and how eight cells hold a shorter list.
-use Rattle.std.specs.Prelude.{ℕ, ◌≡◌, ◌<◌, ◌≤◌, ◌-◌, ◌+◌, List, [], ◌∷◌, ◌++◌, length, take, drop, replicate, set, slice_index, refl}
+-- How eight cells hold a shorter list.
+use Rattle.std.specs.Prelude.{ℕ, ◌≡◌, ◌<◌, ◌≤◌, ◌-◌, ◌+◌, List, ◌++◌, length, take, drop, replicate, set, slice_index}
 use Rattle.std.proofs.Common.{arith, ◌∙◌, ap, sym, take-append-drop, length-take-le, length-set}
 use Rattle.std.proofs.lemmas.List.{drop-set-lt, drop-drop, drop-replicate}
 use Rattle.at_value.specs.declared.list.Bases.TheInside.{Inside}
-
--- each number is that of a class
-abbrev pub AreClasses : List ℕ → Type 0
-AreClasses numbers = (i : ℕ) → slice_index numbers i < 255
 
 -- eight cells for a list that is no longer: its numbers, and then zeros
 abbrev pub cells_of : List ℕ → List ℕ

@@ -1,5 +1,5 @@
 -- How three numbers hold a property.
-use Rattle.std.specs.Prelude.{ℕ, zero, suc, ◌≤◌, ◌≡◌, Option, Some, None, refl}
+use Rattle.std.specs.Prelude.{ℕ, zero, suc, ◌≤◌, ◌≡◌, refl}
 use Rattle.std.proofs.Common.{◌∙◌, ap}
 use Rattle.at_value.specs.declared.value.Prop.TheInside.{Inside}
 use Rattle.at_value.specs.Parts.{Parts, part, held}

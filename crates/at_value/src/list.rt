@@ -1,5 +1,6 @@
 //! Short lists of classes. Contracts see each as the list of the classes' numbers.
 ghost use Rattle.std.specs.Prelude.{◌≡◌, ◌<◌, ◌≤◌, ℕ, List, [], ◌∷◌, ◌++◌, length, IfOk, IsTrue, ◌↔◌, OnOk, OnErr, slice_get};
+ghost use Rattle.at_value.specs.Classes.{AreClasses};
 
 use crate::number::Class;
 use std::alloc::{AllocError, Global};
@@ -110,7 +111,7 @@ impl Model for ClassList {
 
     ghost Value = { List ℕ };
 
-    ghost use Rattle.at_value.specs.Lists.{AreClasses};
+    ghost use Rattle.at_value.specs.Classes.{AreClasses};
 
     ghost view = { λ l. l.items.items };
 
@@ -125,6 +126,18 @@ impl ClassList {
         let mut items = Vec::with_capacity(alloc, list.len())?;
         for class in list {
             items.push(class.number() as u8)?;
+        }
+        Ok(ClassList { items })
+    }
+
+    /// The list of the classes with these numbers.
+    pub fn of_numbers(alloc: Global, numbers: &[u16]) -> Result<ClassList, AllocError>
+        requires { AreClasses numbers.now }
+        ensures { IfOk result (λ list. list ≡ numbers.now) }
+    {
+        let mut items = Vec::with_capacity(alloc, numbers.len())?;
+        for i in 0..numbers.len() {
+            items.push(numbers[i] as u8)?;
         }
         Ok(ClassList { items })
     }

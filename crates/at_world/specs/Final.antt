@@ -3,7 +3,9 @@ use Rattle.std.specs.Prelude.{ℕ, suc, List, [], ◌∷◌, map, Option, Some, 
 use Rattle.at_world.specs.declared.last.ClassEnd.{ClassEnd}
 use Rattle.at_world.specs.declared.last.ObjEnd.{ObjEnd}
 use Rattle.at_world.specs.declared.last.Final as final
-use Rattle.at_world.specs.World.{World, ClassRow, Object, order_of}
+use Rattle.at_world.specs.declared.rows.ClassRow.{ClassRow}
+use Rattle.at_world.specs.declared.rows.Object.{Object}
+use Rattle.at_world.specs.World.{World, order_of}
 use Rattle.at_world.specs.Attributes.{dict_of}
 
 abbrev pub order_or_none : Option (List ℕ) → List ℕ

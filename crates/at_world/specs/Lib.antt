@@ -4,3 +4,4 @@ pub mod Attributes
 pub mod Step
 pub mod History
 pub mod Final
+pub mod Plain

@@ -12,7 +12,9 @@ use Rattle.at_value.specs.declared.operation.Op as op
 use Rattle.at_value.specs.declared.operation.Op.TheVariants as ops
 use Rattle.at_value.specs.declared.reply.Reply as reply
 use Rattle.at_value.specs.declared.reply.Reply.TheVariants as replies
-use Rattle.at_world.specs.World.{World, ClassRow, Object, row_of, own_of, order_in, order_of, find_in}
+use Rattle.at_world.specs.declared.rows.ClassRow.{ClassRow}
+use Rattle.at_world.specs.declared.rows.Object.{Object}
+use Rattle.at_world.specs.World.{World, Map, row_of, own_of, order_in, order_of, find_in}
 use Rattle.at_world.specs.Attributes.{Outcome, unchanged, get_reply, special_reply, super_reply, type_get_reply, class_of_reply, mro_reply, set_effect, del_effect}
 
 -- What an operation names
@@ -125,26 +127,28 @@ set_bases_effect w c bases =
     then unchanged w replies.Duplicate
     else if is_cycle w c bases then unchanged w replies.Cycle else if_ordered w (with_bases w c bases)
 
+-- the classes in which c, whose row this is, has these names of its own
+abbrev pub with_names : List (Option ClassRow) → ℕ → Option ClassRow → Map → List (Option ClassRow)
+with_names classes c None names = classes
+with_names classes c (Some row) names = set classes c (Some (record row { own = names }))
+
 -- the world in which c's own names are these
-abbrev pub with_own : World → ℕ → Option ClassRow → List (ℕ × value.Value) → World
-with_own w c None names = w
-with_own w c (Some row) names = record w { classes = set w.classes c (Some (record row { own = names })) }
+abbrev pub with_own : World → ℕ → Map → World
+with_own w c names = record w { classes = with_names w.classes c (row_of w.classes c) names }
 
 abbrev pub type_set_effect : World → ℕ → ℕ → value.Value → Outcome
 type_set_effect w c n v =
-    let row = row_of w.classes c in
     if c == object
     then unchanged w replies.Immutable
-    else record { reply = replies.Done; world = with_own w c row (with_value n v (own_of row)) }
+    else record { reply = replies.Done; world = with_own w c (with_value n v (own_of (row_of w.classes c))) }
 
 abbrev pub type_del_effect : World → ℕ → ℕ → Outcome
 type_del_effect w c n =
-    let row = row_of w.classes c in
     if c == object
     then unchanged w replies.Immutable
-    else if is_none (value_at n (own_of row))
+    else if is_none (value_at n (own_of (row_of w.classes c)))
     then unchanged w replies.NoAttr
-    else record { reply = replies.Done; world = with_own w c row (without n (own_of row)) }
+    else record { reply = replies.Done; world = with_own w c (without n (own_of (row_of w.classes c))) }
 
 -- Objects
 

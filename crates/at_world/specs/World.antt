@@ -1,28 +1,22 @@
 -- Worlds: classes, objects and dictionaries, the order of a class, and what a name is in it.
 -- After the Python language reference, "Objects, values and types" and "Custom classes".
-use Rattle.std.specs.Prelude.{ℕ, zero, suc, ◌≡◌, ◌<◌, ◌≤◌, ◌⊎◌, List, [], ◌∷◌, ◌++◌, length, map, replicate, Option, Some, None, slice_index_or, slice_get, IsTrue, is_some, All, Contains}
+use Rattle.std.specs.Prelude.{ℕ, zero, suc, ◌≡◌, ◌<◌, ◌≤◌, ◌⊎◌, List, [], ◌∷◌, ◌++◌, length, map, replicate, Option, Some, None, slice_index_or, slice_get, IsTrue, is_some, nat_eq, All, Contains}
 use Rattle.std.specs.List.{IsDistinct}
 use Rattle.at_c3.specs.Merge.{order_of_lists}
 use Rattle.at_value.specs.Numbers.{object}
 use Rattle.at_value.specs.Pairs.{value_at}
 use Rattle.at_value.specs.declared.value.Value as value
 use Rattle.at_value.specs.declared.value.Value.TheVariants as values
+use Rattle.at_world.specs.declared.rows.ClassRow.{ClassRow}
+use Rattle.at_world.specs.declared.rows.Object.{Object}
 
 -- names with values, by rising name number
 abbrev pub Map : Type 0
 Map = List (ℕ × value.Value)
 
--- a class that is made: its bases in order, and the names of its own
-pub record ClassRow : Type 0 where
-  pub bases : List ℕ
-  pub own : Map
-
--- an object: its class, and the dictionary that it names, by the number of the object that was born with it
-pub record Object : Type 0 where
-  pub class : ℕ
-  pub dict : ℕ
-
--- the classes by number, with none where a class isn't made, the objects by number, and the dictionaries, one for each object
+-- The classes by number, none where a class isn't made, each with its bases and the names of its own; the objects by
+-- number, each with its class and the dictionary that it names; and the dictionaries, by the number of the object that
+-- was born with each.
 pub record World : Type 0 where
   pub classes : List (Option ClassRow)
   pub objects : List Object
@@ -127,7 +121,7 @@ pub record IsWellFormed (w : World) : Type 0 where
   pub numbered : length w.classes ≡ 255
   pub rooted : row_of w.classes object ≡ Some (record { bases = []; own = [] })
   pub based : (c b : ℕ) → IsBase w b c → IsMade w b
-  pub distinct : (c : ℕ) → IsDistinct (bases_of (row_of w.classes c))
+  pub distinct : (c : ℕ) → IsDistinct nat_eq (bases_of (row_of w.classes c))
   pub acyclic : (n c : ℕ) → ¬ IsAboveBy n w c c
   pub ordered : (c : ℕ) → IsMade w c → (order : List ℕ) × (order_of w c ≡ Some order)
   pub named : (c : ℕ) → AllNameMade w (own_of (row_of w.classes c))

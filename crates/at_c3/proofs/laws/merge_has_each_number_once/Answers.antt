@@ -6,11 +6,10 @@ use Rattle.at_c3.proofs.laws.merge_has_each_number_once.Goals as goal
 
 pub returns : goal.returns
 returns c = λ lists merged is.
-    let run = run_from_merge merged lists is in
-    (
+    let run = run_from_merge merged lists is in (
       run_is_distinct merged lists run,
       λ n. (
         λ at. Any-from_has (λ list. list) n lists (sym (has-run n merged lists run) ∙ has-from_Contains n merged at),
-        λ some. Contains-from_has n merged (has-run n merged lists run ∙ has-from_Any (λ list. list) n lists some)
-      )
+        λ some. Contains-from_has n merged (has-run n merged lists run ∙ has-from_Any (λ list. list) n lists some),
+      ),
     )

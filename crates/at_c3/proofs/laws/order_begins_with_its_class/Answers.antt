@@ -13,13 +13,12 @@ pub returns : goal.returns
 returns c = λ class bases orders order is.
     let lists = orders ++ bases ∷ [] in
     let found = prefixed-some (class ∷ []) (merge_of lists) order is in
-    let run = run_from_merge found.0 lists found.1 in
-    (
+    let run = run_from_merge found.0 lists found.1 in (
       found.0,
       found.2,
       found.1,
       λ not_there.
-        let none = false_from_ne_true (list_any (has class) lists) (λ some. not_there (Any-from_has (λ list. list) class lists some)) in
-        let P : List ℕ → Type 0 = λ o. IsDistinct nat_eq o in
-        subst P (sym found.2) (IsDistinct-cons nat_eq class found.0 (all_differ class found.0 (has-run class found.0 lists run ∙ none)) (run_is_distinct found.0 lists run))
+          let none = false_from_ne_true (list_any (has class) lists) (λ some. not_there (Any-from_has (λ list. list) class lists some)) in
+          let P : List ℕ → Type 0 = λ o. IsDistinct nat_eq o in
+          subst P (sym found.2) (IsDistinct-cons nat_eq class found.0 (all_differ class found.0 (has-run class found.0 lists run ∙ none)) (run_is_distinct found.0 lists run)),
     )

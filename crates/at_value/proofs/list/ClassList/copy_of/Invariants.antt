@@ -1,5 +1,5 @@
 use Rattle.std.proofs.Common.{◌≡◌, take}
-use Rattle.at_value.specs.Lists.{AreClasses}
+use Rattle.at_value.specs.Classes.{AreClasses}
 use Rattle.at_value.proofs.list.ClassList.copy_of.Given as goal
 
 -- the classes that were copied so far

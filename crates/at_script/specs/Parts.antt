@@ -1,0 +1,39 @@
+-- What a script is.
+use Rattle.std.specs.Prelude.{ℕ, List, [], Option, Some, None, slice_get}
+use Rattle.at_script.specs.declared.tables.Tables.{Tables}
+use Rattle.at_script.specs.declared.stmt.Stmt.{Stmt}
+use Rattle.at_script.specs.declared.stmt.Block.{Block}
+use Rattle.at_script.specs.declared.stmt.Block.TheVariants.{Main, Thread, Finally, Func}
+
+-- Texts and functions are known by their places in these lists; `bodies` has the statements of each function.
+pub record Parts : Type 0 where
+  pub budget : ℕ
+  pub names : List (List ℕ)
+  pub classes : List (List ℕ)
+  pub vars : List (List ℕ)
+  pub funcs : List (List ℕ)
+  pub bodies : List (List Stmt)
+  pub main : List Stmt
+  pub threads : List (List Stmt)
+  pub finally : Option (List Stmt)
+
+-- a script of the block `main` alone, which may begin 10,000 statements
+abbrev pub script_with : List Stmt → Tables → Parts
+script_with main t = record {
+  budget = 10000;
+  names = t.names;
+  classes = t.classes;
+  vars = t.vars;
+  funcs = [];
+  bodies = [];
+  main = main;
+  threads = [];
+  finally = None;
+}
+
+-- the statements of a block, where the script has it
+abbrev pub block_of : Parts → Block → Option (List Stmt)
+block_of s Main = Some s.main
+block_of s (Thread number) = slice_get s.threads number
+block_of s Finally = s.finally
+block_of s (Func f) = slice_get s.bodies f

@@ -1,0 +1,63 @@
+-- Identifiers, names of attributes, numbers and values.
+use Rattle.std.specs.Prelude.{ℕ, ◌==◌, nat_eq, nat_le, Bool, true, false, not, ◌&&◌, ◌||◌, List, [], ◌∷◌, length, Option, Some, None, if◌then◌else◌, codes, bytes_eq, ℤ, pos, negsuc, int_le}
+use Rattle.std.specs.Option.{option_map}
+use Rattle.std.specs.List.{list_all, starts_with}
+use Rattle.std.specs.Char.{is_ascii_alphabetic, is_ascii_alphanumeric}
+use Rattle.std.specs.Fmt.{signed_decimal}
+use Rattle.std.specs.Str.Parse.{signed_digits_value}
+use Rattle.at_value.specs.declared.value.Value as values
+use Rattle.at_value.specs.declared.value.Value.TheVariants.{Nothing, Int}
+
+-- a letter or `_`, of which 95 is the code
+abbrev pub begins_identifier : ℕ → Bool
+begins_identifier byte = is_ascii_alphabetic byte || byte == 95
+
+-- a letter, a digit or `_`
+abbrev pub continues_identifier : ℕ → Bool
+continues_identifier byte = is_ascii_alphanumeric byte || byte == 95
+
+-- a letter or `_`, and then letters, digits or `_`
+abbrev pub has_identifier_form : List ℕ → Bool
+has_identifier_form [] = false
+has_identifier_form (first ∷ rest) = begins_identifier first && list_all continues_identifier rest
+
+-- the words that scripts use for something else than a name
+abbrev pub is_reserved : List ℕ → Bool
+is_reserved word =
+    bytes_eq word (codes "none") || bytes_eq word (codes "self") || bytes_eq word (codes "arg") || bytes_eq word (codes "other")
+    || bytes_eq word (codes "it") || bytes_eq word (codes "object")
+
+-- an identifier has at most 32 bytes and isn't reserved
+abbrev pub is_identifier : List ℕ → Bool
+is_identifier word = nat_le (length word) 32 && has_identifier_form word && not (is_reserved word)
+
+-- An attribute may have any identifier for a name but `mro` and those that begin with `__`.
+abbrev pub is_attribute_name : List ℕ → Bool
+is_attribute_name word = is_identifier word && not (bytes_eq word (codes "mro")) && not (starts_with nat_eq word (codes "__"))
+
+-- a class is named by an identifier or by `object`
+abbrev pub is_class_word : List ℕ → Bool
+is_class_word word = is_identifier word || bytes_eq word (codes "object")
+
+abbrev pub identifier_of : List ℕ → Option (List ℕ)
+identifier_of word = if is_identifier word then Some word else None
+
+abbrev pub attribute_name_of : List ℕ → Option (List ℕ)
+attribute_name_of word = if is_attribute_name word then Some word else None
+
+abbrev pub class_word_of : List ℕ → Option (List ℕ)
+class_word_of word = if is_class_word word then Some word else None
+
+-- the signed numbers of 32 bits
+abbrev pub is_in_range : ℤ → Bool
+is_in_range z = int_le (negsuc 2147483647) z && int_le z (pos 2147483647)
+
+-- The number in the range of 32 bits whose decimal text is the word: the value of its digits, if it is written so.
+abbrev pub number_of : List ℕ → Option ℤ
+number_of word =
+    let z = signed_digits_value 10 word in
+    if is_in_range z && bytes_eq (signed_decimal z) word then Some z else None
+
+-- a value is `none` or a number
+abbrev pub value_of : List ℕ → Option values.Value
+value_of word = if bytes_eq word (codes "none") then Some Nothing else option_map Int (number_of word)

@@ -1,0 +1,120 @@
+//! Scripts. Contracts see each as the record of its parts.
+ghost use Rattle.std.specs.Prelude.{◌≡◌, ◌≤◌, length, slice_get};
+ghost use Rattle.std.specs.Option.{option_copied};
+ghost use Rattle.at_script.specs.Parts.{script_with, block_of};
+
+use crate::stmt::{Block, Stmt};
+use crate::tables::Tables;
+use at_value::{Class, Func, Name};
+use std::marker::Model;
+
+/// A script: its statements, and the texts that they name by number.
+#[derive(Drop)]
+pub struct Script {
+    tables: Tables,
+    main: Vec<Stmt>,
+}
+
+impl Model for Script {
+    ghost use Rattle.at_script.specs.Parts.{Parts, script_with};
+
+    ghost Value = { Parts };
+
+    ghost view = { λ s. script_with s.main.items s.tables };
+}
+
+impl Script {
+    /// The script of these statements of `main`.
+    pub(crate) fn of_main(main: Vec<Stmt>, tables: Tables) -> Script
+        ensures { result ≡ script_with main.items tables }
+    {
+        Script { tables, main }
+    }
+
+    /// How many statements each thread may begin, from 1 to 100,000.
+    pub fn budget(&self) -> u32
+        ensures same { result ≡ self.now.budget }
+        ensures least { 1 ≤ result }
+        ensures most { result ≤ 100000 }
+    {
+        10_000
+    }
+
+    /// How many threads there are, at most 32.
+    pub fn threads(&self) -> u8
+        ensures same { result ≡ length self.now.threads }
+        ensures most { result ≤ 32 }
+    {
+        0
+    }
+
+    /// The statements of a block, and none exactly where the script has no such block.
+    pub fn block(&self, b: Block) -> Option<&[Stmt]>
+        ensures { option_copied result ≡ block_of self.now b }
+    {
+        match b {
+            Block::Main => Some(self.main.as_slice()),
+            Block::Thread(_) | Block::Finally | Block::Func(_) => None,
+        }
+    }
+
+    /// The text of an attribute name or a text, and none exactly where the script has none of this number.
+    pub fn name_text(&self, n: Name) -> Option<&str>
+        ensures { option_copied result ≡ slice_get self.now.names n }
+    {
+        self.tables.names.text(usize::from(n.number()))
+    }
+
+    /// The text of a class, and none exactly where the script has none of this number.
+    pub fn class_text(&self, c: Class) -> Option<&str>
+        ensures { option_copied result ≡ slice_get self.now.classes c }
+    {
+        self.tables.classes.text(usize::from(c.number()))
+    }
+
+    /// The text of a function, and none exactly where the script has none of this number.
+    pub fn func_text(&self, _f: Func) -> Option<&str>
+        ensures { option_copied result ≡ slice_get self.now.funcs _f }
+    {
+        None
+    }
+
+    /// The text of a variable, and none exactly where the script has none of this number.
+    pub fn var_text(&self, v: u16) -> Option<&str>
+        ensures { option_copied result ≡ slice_get self.now.vars v }
+    {
+        self.tables.vars.text(usize::from(v))
+    }
+
+    /// How many attribute names and texts there are, the five special names included.
+    pub fn names(&self) -> usize
+        ensures same { result ≡ length self.now.names }
+        ensures most { result ≤ 4096 }
+    {
+        self.tables.names.len()
+    }
+
+    /// How many classes there are, `object` included.
+    pub fn classes(&self) -> usize
+        ensures same { result ≡ length self.now.classes }
+        ensures most { result ≤ 255 }
+    {
+        self.tables.classes.len()
+    }
+
+    /// How many functions there are.
+    pub fn funcs(&self) -> usize
+        ensures same { result ≡ length self.now.funcs }
+        ensures most { result ≤ 1024 }
+    {
+        0
+    }
+
+    /// How many variables there are.
+    pub fn vars(&self) -> usize
+        ensures same { result ≡ length self.now.vars }
+        ensures most { result ≤ 1024 }
+    {
+        self.tables.vars.len()
+    }
+}

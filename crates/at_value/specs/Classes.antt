@@ -1,0 +1,6 @@
+-- Numbers of classes.
+use Rattle.std.specs.Prelude.{ℕ, ◌<◌, List, slice_index}
+
+-- each number is that of a class
+abbrev pub AreClasses : List ℕ → Type 0
+AreClasses numbers = (i : ℕ) → slice_index numbers i < 255

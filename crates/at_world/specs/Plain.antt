@@ -1,0 +1,48 @@
+-- What the plain data model keeps: a world, and how many writes led to it.
+use Rattle.std.specs.Prelude.{ℕ, ◌≡◌, ◌+◌, ◌-◌, ◌^◌, ◌≤◌, min, length, map, List, [], Option, Some, if◌then◌else◌, IsTrue, is_some, slice_index_or}
+use Rattle.smallvec.specs.SmallVec.{SmallVec}
+use Rattle.at_value.specs.declared.operation.Op as op
+use Rattle.at_value.specs.declared.operation.Op.TheVariants as ops
+use Rattle.at_world.specs.declared.rows.ClassRow.{ClassRow}
+use Rattle.at_world.specs.World.{World, Map, row_of, order_in}
+use Rattle.at_world.specs.Step.{Outcome, step, is_done}
+use Rattle.at_world.specs.declared.rows.Object.{Object}
+
+pub record State : Type 0 where
+  pub world : World
+  pub place : ℕ
+
+-- one write more; the count stands still at 2^64 - 1
+abbrev pub counted : ℕ → ℕ
+counted place = min (place + 1) (2 ^ 64 - 1)
+
+abbrev pub moved : ℕ → Outcome → State
+moved place outcome = record { world = outcome.world; place = if is_done outcome.reply then counted place else place }
+
+-- the state after an operation: the world after its step, and one place more where it is a write
+abbrev pub stepped : State → op.Op → State
+stepped s operation = moved s.place (step s.world operation)
+
+-- the order that is kept for each class that is made is its order
+abbrev pub AreOrders : List (Option ClassRow) → List (List ℕ) → Type 0
+AreOrders classes orders = (c : ℕ) → IsTrue (is_some (row_of classes c)) → order_in classes c ≡ Some (slice_index_or orders c [])
+
+abbrev pub lists_of : List (SmallVec ℕ) → List (List ℕ)
+lists_of orders = map (λ l. l.items) orders
+
+-- what is true of classes, their orders, objects and dictionaries that are kept
+pub record IsKept (classes : List (Option ClassRow)) (orders : List (List ℕ)) (objects : List Object) (dicts : List Map) : Type 0 where
+  pub numbered : length classes ≡ 255
+  pub ordered : length orders ≡ 255
+  pub orders_are : AreOrders classes orders
+  pub few : length objects ≤ 4096
+  pub named : length dicts ≡ length objects
+
+-- an operation that is understood
+abbrev pub IsKnown : op.Op → Type 0
+IsKnown (ops.NewClass c bases) = Unit {0}
+IsKnown (ops.TypeSet c n v) = Unit {0}
+IsKnown (ops.New c) = Unit {0}
+IsKnown (ops.Set o n v) = Unit {0}
+IsKnown (ops.Get o n) = Unit {0}
+IsKnown operation = ⊥

@@ -1,0 +1,40 @@
+//! Looking up classes, and names in them.
+ghost use Rattle.std.specs.Prelude.{◌≡◌, is_some};
+ghost use Rattle.std.specs.Option.{option_copied};
+ghost use Rattle.at_value.specs.Pairs.{value_at};
+ghost use Rattle.at_world.specs.World.{row_of, own_of, find_along};
+
+use crate::rows::ClassRow;
+use at_value::{Name, Value};
+
+/// What is kept of the class with this number, where it is made.
+pub fn class_row(classes: &[Option<ClassRow>], c: u16) -> Option<&ClassRow>
+    ensures { option_copied result ≡ row_of classes.now c }
+{
+    match classes.get(usize::from(c)) {
+        Some(row) => row.as_ref(),
+        None => None,
+    }
+}
+
+/// What the class has itself under the name.
+fn own_value(classes: &[Option<ClassRow>], c: u16, n: Name) -> Option<Value>
+    ensures { result ≡ value_at n (own_of (row_of classes.now c)) }
+{
+    match class_row(classes, c) {
+        Some(row) => row.own.get(n),
+        None => None,
+    }
+}
+
+/// The name's value in the first of the classes that has it itself.
+pub fn find_along_order(classes: &[Option<ClassRow>], order: &[u16], n: Name) -> Option<Value>
+    ensures { result ≡ find_along classes.now order.now n }
+{
+    for c in order {
+        if let Some(value) = own_value(classes, *c, n) {
+            return Some(value);
+        }
+    }
+    None
+}
