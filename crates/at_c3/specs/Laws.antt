@@ -29,3 +29,9 @@ abbrev pub OrderBeginsWithItsClass : Type 0
 OrderBeginsWithItsClass =
     (c : ℕ) (bases : List ℕ) (orders : List (List ℕ)) (order : List ℕ) → order_of_lists c bases orders ≡ Some order
     → (rest : List ℕ) × (order ≡ c ∷ rest) × (merge_of (orders ++ bases ∷ []) ≡ Some rest) × (¬ (Any (λ list. Contains list c) (orders ++ bases ∷ [])) → IsDistinct nat_eq order)
+
+-- The bases stand in an order as in the list of bases (local precedence), and each base's order is kept (monotonicity).
+abbrev pub OrderKeepsEveryOrder : Type 0
+OrderKeepsEveryOrder =
+    (c : ℕ) (bases : List ℕ) (orders : List (List ℕ)) (order : List ℕ) → order_of_lists c bases orders ≡ Some order
+    → IsSubsequence bases order × All (λ order_of_base. IsSubsequence order_of_base order) orders

@@ -9,7 +9,7 @@ use std::alloc::{AllocError, Global};
 /// How often each number was counted, by number; one past the end was never counted.
 #[derive(Drop)]
 pub struct Counts {
-    counts: SmallVec<u32, 64, Global>,
+    counts: SmallVec<u32, 32, Global>,
 }
 
 impl Counts {

@@ -27,7 +27,8 @@ fn tail_of(list: &[u16]) -> &[u16]
 
 /// Counts the numbers in the tails of the lists.
 fn count_tails(counts: &mut Counts, lists: &[&[u16]]) -> Result<(), AllocError>
-    ensures { OnOk result (AreCountsOf counts.old.counts.items [] → AreCountsOf counts.new.counts.items (tail_numbers (contents lists.now))) }
+    ensures { OnOk result (AreCountsOf counts.old.counts.items []
+        → AreCountsOf counts.new.counts.items (tail_numbers (contents lists.now))) }
 {
     for list in lists {
         counts.add_all(tail_of(list))?;
@@ -89,17 +90,20 @@ fn are_all_empty(lists: &[&[u16]]) -> bool
     lists.iter().all(|list| list.is_empty())
 }
 
-/// The length of the longest list, and so no more than that of the merge.
+/// The length of the longest list; a merge has at least as many numbers.
 fn longest_len(lists: &[&[u16]]) -> usize {
     lists.iter().map(|list| list.len()).max().unwrap_or(0)
 }
 
 /// Adds the merge of the lists to what stands before it.
 fn merge_onto(alloc: Global, mut merged: List, rests: &mut [&[u16]]) -> Result<List, MergeFault>
-    ensures merged { IfOk result (λ list. prefixed merged.items (merge_of (contents rests.old)) ≡ Some list.items) }
-    ensures no_head { IsErrOf result MergeFault.NoHead → prefixed merged.items (merge_of (contents rests.old)) ≡ None }
+    ensures merged { IfOk result
+        (λ list. prefixed merged.items (merge_of (contents rests.old)) ≡ Some list.items) }
+    ensures no_head { IsErrOf result MergeFault.NoHead
+        → prefixed merged.items (merge_of (contents rests.old)) ≡ None }
     ensures none { prefixed merged.items (merge_of (contents rests.old)) ≡ None → IsErr result }
-    ensures some { IsSome (prefixed merged.items (merge_of (contents rests.old))) → IsOkUnless result MergeFault.NoMemory }
+    ensures some { IsSome (prefixed merged.items (merge_of (contents rests.old)))
+        → IsOkUnless result MergeFault.NoMemory }
 {
     merged.reserve(longest_len(rests))?;
     let mut in_tails = Counts::new(alloc);
@@ -115,13 +119,12 @@ fn merge_onto(alloc: Global, mut merged: List, rests: &mut [&[u16]]) -> Result<L
     }
 }
 
-/// The slices of the lists, with room for one more.
+/// The slices of the lists.
 fn slices_of<'a>(alloc: Global, lists: &'a [List]) -> Result<Rests<'a>, MergeFault>
     ensures slices { IfOk result (λ slices. contents slices.items ≡ map (λ l. l.items) lists.now) }
     ensures fault { IsOkUnless result MergeFault.NoMemory }
 {
-    let mut slices = SmallVec::new(alloc);
-    slices.reserve(lists.len())?;
+    let mut slices = SmallVec::with_capacity(alloc, lists.len())?;
     for list in lists {
         slices.push(list.as_slice())?;
     }
@@ -135,10 +138,13 @@ fn slices_of<'a>(alloc: Global, lists: &'a [List]) -> Result<Rests<'a>, MergeFau
 /// `NoMemory` where memory ran out, or where a number stands in the tails 2^32 times; it may
 /// come in place of either other answer.
 pub fn merge(alloc: Global, lists: &[List]) -> Result<List, MergeFault>
-    ensures merged { IfOk result (λ list. merge_of (map (λ l. l.items) lists.now) ≡ Some list.items) }
-    ensures no_head { IsErrOf result MergeFault.NoHead → merge_of (map (λ l. l.items) lists.now) ≡ None }
+    ensures merged { IfOk result
+        (λ list. merge_of (map (λ l. l.items) lists.now) ≡ Some list.items) }
+    ensures no_head { IsErrOf result MergeFault.NoHead
+        → merge_of (map (λ l. l.items) lists.now) ≡ None }
     ensures none { merge_of (map (λ l. l.items) lists.now) ≡ None → IsErr result }
-    ensures some { IsSome (merge_of (map (λ l. l.items) lists.now)) → IsOkUnless result MergeFault.NoMemory }
+    ensures some { IsSome (merge_of (map (λ l. l.items) lists.now))
+        → IsOkUnless result MergeFault.NoMemory }
 {
     merge_onto(alloc, SmallVec::new(alloc), &mut slices_of(alloc, lists)?)
 }
@@ -148,25 +154,32 @@ pub fn merge(alloc: Global, lists: &[List]) -> Result<List, MergeFault>
 ///
 /// `NoHead` where they have no merge, `NoMemory` as [`merge`] answers it.
 pub fn order(alloc: Global, c: u16, bases: &[u16], orders: &[List]) -> Result<List, MergeFault>
-    ensures ordered { IfOk result (λ list. order_of_lists c bases.now (map (λ l. l.items) orders.now) ≡ Some list.items) }
-    ensures no_head { IsErrOf result MergeFault.NoHead → order_of_lists c bases.now (map (λ l. l.items) orders.now) ≡ None }
+    ensures ordered { IfOk result
+        (λ list. order_of_lists c bases.now (map (λ l. l.items) orders.now) ≡ Some list.items) }
+    ensures no_head { IsErrOf result MergeFault.NoHead
+        → order_of_lists c bases.now (map (λ l. l.items) orders.now) ≡ None }
     ensures none { order_of_lists c bases.now (map (λ l. l.items) orders.now) ≡ None → IsErr result }
-    ensures some { IsSome (order_of_lists c bases.now (map (λ l. l.items) orders.now)) → IsOkUnless result MergeFault.NoMemory }
+    ensures some { IsSome (order_of_lists c bases.now (map (λ l. l.items) orders.now))
+        → IsOkUnless result MergeFault.NoMemory }
 {
     order_of_slices(alloc, c, bases, &slices_of(alloc, orders)?)
 }
 
-/// The order of class `c`, as [`order`] gives it, where the orders of its bases are slices.
+/// The order of class `c`, where the orders of its bases are slices; it answers as [`order`]
+/// does.
 pub fn order_of_slices<'a>(
     alloc: Global,
     c: u16,
     bases: &'a [u16],
     orders: &[&'a [u16]],
 ) -> Result<List, MergeFault>
-    ensures ordered { IfOk result (λ list. order_of_lists c bases.now (contents orders.now) ≡ Some list.items) }
-    ensures no_head { IsErrOf result MergeFault.NoHead → order_of_lists c bases.now (contents orders.now) ≡ None }
+    ensures ordered { IfOk result
+        (λ list. order_of_lists c bases.now (contents orders.now) ≡ Some list.items) }
+    ensures no_head { IsErrOf result MergeFault.NoHead
+        → order_of_lists c bases.now (contents orders.now) ≡ None }
     ensures none { order_of_lists c bases.now (contents orders.now) ≡ None → IsErr result }
-    ensures some { IsSome (order_of_lists c bases.now (contents orders.now)) → IsOkUnless result MergeFault.NoMemory }
+    ensures some { IsSome (order_of_lists c bases.now (contents orders.now))
+        → IsOkUnless result MergeFault.NoMemory }
 {
     let mut rests: Rests = SmallVec::from_slice(alloc, orders)?;
     rests.push(bases)?;

@@ -98,4 +98,5 @@ fn laws_can_be_called() {
     laws::merge_has_each_number_once();
     laws::merge_keeps_every_order();
     laws::order_begins_with_its_class();
+    laws::order_keeps_every_order();
 }

@@ -1,9 +1,9 @@
 -- Texts that are printed on a page, one after another.
-use Rattle.std.proofs.Common.{◌≡◌, ◌∙◌, ap, sym, refl, ℕ, ◌+◌, ◌-◌, ◌≤◌, List, [], ◌++◌, take, drop, length, length-append, length-drop, append_assoc, append-nil, arith, Bool, true, false, Option, Some, None, Result, Ok, Err, is_err, OnOk, OnErr, subst}
+use Rattle.std.proofs.Common.{◌≡◌, ◌∙◌, ap, sym, refl, ℕ, ◌+◌, ◌≤◌, List, [], ◌++◌, take, drop, length, length-append, length-drop, append_assoc, append-nil, arith, Bool, true, false, Option, Result, Ok, Err, is_err, OnOk, OnErr, subst}
 use Rattle.std.proofs.lemmas.List.{drop-drop, take-append-le, drop-append-le, take_all, drop_all}
 use Rattle.std.proofs.Math.Seq.{take-add}
 use Rattle.std.specs.Io.KnownBytes.{append_known}
-use Rattle.at_source.specs.Page.{Held, Writes, Printed, empty_page}
+use Rattle.at_source.specs.Page.{Held, Writes, Printed}
 use Rattle.at_source.specs.Whole.{GrewByFront}
 use Rattle.at_source.proofs.Told.{append_known-append, append_known-nil}
 
@@ -95,9 +95,13 @@ then_writes_if false a b c p q r xs ys is first second =
 pub then_writes : {a b c : Option (List ℕ)} {p q r : Held} {xs ys : List ℕ} → Writes a p b q xs → Writes b q c r ys → Writes a p c r (xs ++ ys)
 then_writes {a} {b} {c} {p} {q} {r} {xs} {ys} first second = then_writes_if q.failed a b c p q r xs ys refl first second
 
+-- the text may be told in another way
+pub writes_same : {a b : Option (List ℕ)} {p q : Held} {xs ys : List ℕ} → Writes a p b q xs → xs ≡ ys → Writes a p b q ys
+writes_same {a} {b} {p} {q} writes same = subst (Writes a p b q) same writes
+
 -- a text, and then nothing, is the text
 pub then_nothing : {a b c : Option (List ℕ)} {p q r : Held} {xs : List ℕ} → Writes a p b q xs → Writes b q c r [] → Writes a p c r xs
-then_nothing {a} {b} {c} {p} {q} {r} {xs} first second = subst (Writes a p c r) (append-nil xs) (then_writes first second)
+then_nothing {a} {b} {c} {p} {q} {r} {xs} first second = writes_same (then_writes first second) (append-nil xs)
 
 -- what was printed on a page that then holds nothing and didn't fail is written whole
 pub printed_whole : (start written : Option (List ℕ)) (page : Held) (text : List ℕ) → Printed start written page text → page.failed ≡ false → page.bytes ≡ [] → written ≡ append_known start text

@@ -1,5 +1,5 @@
 -- What is seen of the sources and sinks in memory.
-use Rattle.std.specs.Prelude.{ℕ, ◌==◌, List, length, min, Bool, if◌then◌else◌}
+use Rattle.std.specs.Prelude.{ℕ, ◌==◌, List, Bool, if◌then◌else◌}
 use Rattle.std.specs.List.{list_any}
 use Rattle.at_source.specs.Faults.{one_more}
 

@@ -39,8 +39,11 @@ impl From<AllocError> for ReadAllFault {
     }
 }
 
-/// How many bytes the first read asks for.
+/// How many bytes the first read asks for at most. Later reads ask for as many as were read before.
 const FIRST_READ: usize = 8 * 1024;
+
+/// How many bytes any read asks for at most.
+const LONGEST_READ: usize = 64 * 1024;
 
 /// Reads a source to its end, or until it has given `most` bytes, whichever comes first.
 ///
@@ -102,8 +105,8 @@ fn read_more<S: Source>(
     Ok(count)
 }
 
-/// Makes the list longer than `filled`, at most `most`, and twice as long where it was full, so that growth costs
-/// little for each byte.
+/// Makes the list longer than `filled`, by zeros, at most `most`. Few bytes are zeroed that no read fills, and the
+/// list's memory at least doubles where it grows, so that a byte costs little.
 fn make_room(bytes: &mut Vec<u8>, filled: usize, most: usize) -> Result<(), AllocError>
     requires wanted { filled < most }
     requires within { filled ≤ vec_len bytes.old }
@@ -116,8 +119,8 @@ fn make_room(bytes: &mut Vec<u8>, filled: usize, most: usize) -> Result<(), Allo
     if bytes.len() > filled {
         return Ok(());
     }
-    let length = filled.saturating_mul(2).max(FIRST_READ).min(most);
-    bytes.resize(length, 0)
+    let room = filled.clamp(FIRST_READ, LONGEST_READ).min(most - filled);
+    bytes.resize(filled + room, 0)
 }
 
 /// Writes the bytes, all of them. Where the sink fails, a front of them was written.

@@ -1,11 +1,11 @@
 -- What `add` and `remove` keep of a tree, and what a tree without pairs has.
-use Rattle.std.proofs.Common.{◌≡◌, ◌≢◌, ℕ, ◌+◌, ◌<◌, ◌^◌, Bool, true, false, not, cond, eqb, List, [], ◌∷◌, ◌++◌, length, get_or, set, map, filter, replicate, AllPairs, Contains, ◌⊎◌, inl, inr, ⊎_elim, refl, sym, ap, ◌∙◌, subst, arith, rules}
+use Rattle.std.proofs.Common.{◌≡◌, ◌≢◌, ◌↔◌, ℕ, ◌<◌, ◌^◌, Bool, not, eqb, List, [], ◌∷◌, ◌++◌, length, get_or, set, map, filter, replicate, AllPairs, Contains, ◌⊎◌, inl, inr, refl, ⊎_elim, sym, ap, ◌∙◌, subst, arith}
 use Rattle.std.proofs.lemmas.Bool.{cases_eq, cases_lt}
 use Rattle.std.proofs.lemmas.List.{get_or-set_same, get_or-set_other, length-set, map-set, get_or-map, set-get_or, get_or-replicate, length-replicate, get_or_past, length-map}
-use Rattle.std.proofs.lemmas.List.Elements.{Contains-push_cases, Contains-append_left, Contains-get_or, All-filter, All-contains_itself, All-contains}
+use Rattle.std.proofs.lemmas.List.Elements.{Contains-append_left, Contains-push_cases, Contains-get_or, All-filter, All-contains_itself, All-contains}
 use Rattle.std.proofs.lemmas.List.Quantifiers.{all_pairs_push}
 use Rattle.std.proofs.lemmas.List.Kept.{AllPairs-filter}
-use Rattle.at_tree.specs.Tree.{children, without, entered, IsPath, Reaches, IsTree}
+use Rattle.at_tree.specs.Tree.{children, without, IsPath, Reaches, IsTree}
 use Rattle.at_tree.proofs.Members.{none_in}
 use Rattle.at_tree.proofs.Paths.{reach_here, reach_step, reach_trans, path_more}
 
@@ -14,7 +14,7 @@ pub written : {X : Type 0} (f : X → List ℕ) (change : List ℕ → List ℕ)
 written {X} f change xs tree i base x y shown at inside was is =
     let in_xs : i < length xs = omega (arith, ap length shown, length-map xs f) in
     let before : f x ≡ children tree base =
-        ap f was ∙ sym (get_or-map f xs i x [] in_xs) ∙ ap (λ t. get_or t i []) shown ∙ ap (λ k. get_or tree k []) at in
+    ap f was ∙ sym (get_or-map f xs i x [] in_xs) ∙ ap (λ t. get_or t i []) shown ∙ ap (λ k. get_or tree k []) at in
     map-set f xs i y ∙ ap (λ t. set t i (f y)) shown ∙ ap (λ k. set tree k (f y)) at ∙ ap (set tree base) (is ∙ ap change before)
 
 -- the same where the list is what it was
@@ -48,9 +48,9 @@ module _ (tree : List (List ℕ)) (t : IsTree tree) (base c : ℕ) (base_in : ba
   path_added a (e ∷ path) d p =
       ⊎_elim
       (λ old. ⊎_elim
-          (λ r. inl (reach_step tree [] a e d old r))
-          (λ r. inr (reach_step tree [] a e base old r.0, r.1))
-          (path_added e path d p.1))
+      (λ r. inl (reach_step tree [] a e d old r))
+      (λ r. inr (reach_step tree [] a e base old r.0, r.1))
+      (path_added e path d p.1))
       (λ new. inr (reach_here tree [] a base new.0, ⊎_elim (λ r. subst (λ x. Reaches tree [] x d) new.1 r) (λ r. r.1) (path_added e path d p.1)))
       (pair_added a e p.0)
 
@@ -67,13 +67,13 @@ module _ (tree : List (List ℕ)) (t : IsTree tree) (base c : ℕ) (base_in : ba
             (λ _. t.once k);
         acyclic = λ k d h r. ⊎_elim
             (λ old. ⊎_elim
-                (λ q. t.acyclic k d old q)
-                (λ q. not_below (reach_trans tree [] c k base q.1 (reach_step tree [] k d base old q.0)))
-                (path_added d r.0 k r.1))
+            (λ q. t.acyclic k d old q)
+            (λ q. not_below (reach_trans tree [] c k base q.1 (reach_step tree [] k d base old q.0)))
+            (path_added d r.0 k r.1))
             (λ one. not_below (⊎_elim
-                (λ q. subst (λ x. Reaches tree [] x base) one.1 (subst (Reaches tree [] d) one.0 q))
-                (λ q. subst (λ x. Reaches tree [] x base) one.1 q.0)
-                (path_added d r.0 k r.1)))
+            (λ q. subst (λ x. Reaches tree [] x base) one.1 (subst (Reaches tree [] d) one.0 q))
+            (λ q. subst (λ x. Reaches tree [] x base) one.1 q.0)
+            (path_added d r.0 k r.1)))
             (pair_added k d h);
       }
 
@@ -96,6 +96,39 @@ module _ (tree : List (List ℕ)) (t : IsTree tree) (base c : ℕ) (base_in : ba
             (λ _. t.once k);
         acyclic = λ k d h r. t.acyclic k d (pair_kept k d h) (path_more (set tree base (without (children tree base) c)) tree pair_kept d r.0 k r.1);
       }
+
+  -- a pair of the tree is still there with c below base
+  pair_stays : (k e : ℕ) → Contains (children tree k) e → Contains (children (set tree base (children tree base ++ c ∷ [])) k) e
+  pair_stays k e h =
+      children_set (children tree base ++ c ∷ []) (λ list. Contains list e) k
+      (λ at. Contains-append_left (children tree base) (c ∷ []) e (subst (λ j. Contains (children tree j) e) at h))
+      (λ _. h)
+
+  -- what lies below c is the same with c below base
+  pub added_below : ¬ Reaches tree [] c base → (d : ℕ) → Reaches (set tree base (children tree base ++ c ∷ [])) [] c d ↔ Reaches tree [] c d
+  added_below not_below d =
+      (
+          (λ r. ⊎_elim (λ old. old) (λ q. absurd (not_below q.0)) (path_added c r.0 d r.1)),
+          (λ r. path_more tree (set tree base (children tree base ++ c ∷ [])) pair_stays c r.0 d r.1)
+      )
+
+  -- a path below c doesn't come to base
+  path_apart : Contains (children tree base) c → (a : ℕ) (path : List ℕ) (d : ℕ) → Reaches tree [] c a → IsPath tree [] a path d → Reaches (set tree base (without (children tree base) c)) [] a d
+  path_apart pair a [] d r p = ([], p)
+  path_apart pair a (e ∷ path) d r p =
+      let new : List (List ℕ) = set tree base (without (children tree base) c) in
+      let next : Reaches tree [] c e = reach_trans tree [] c a e r (reach_step tree [] a e e p.0 (reach_here tree [] e e refl)) in
+      let kept : Contains (children new a) e =
+          children_set (without (children tree base) c) (λ list. Contains list e) a (λ at. absurd (t.acyclic base c pair (subst (Reaches tree [] c) at r))) (λ _. p.0) in
+      reach_step new [] a e d kept (path_apart pair e path d next p.1)
+
+  -- what lies below c is the same without c below base
+  pub removed_below : Contains (children tree base) c → (d : ℕ) → Reaches (set tree base (without (children tree base) c)) [] c d ↔ Reaches tree [] c d
+  removed_below pair d =
+      (
+          (λ r. path_more (set tree base (without (children tree base) c)) tree pair_kept c r.0 d r.1),
+          (λ r. path_apart pair c r.0 d (reach_here tree [] c c refl) r.1)
+      )
 
 -- a tree without pairs has no direct subclass
 children_empty : (n k : ℕ) → children (replicate n []) k ≡ []

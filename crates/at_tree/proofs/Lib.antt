@@ -2,5 +2,5 @@ pub mod Members
 pub mod Paths
 pub mod Changes
 pub mod Walks
-pub mod Fuel
+pub mod Depth
 pub mod Stages

@@ -1,16 +1,19 @@
 -- Lemmas on what a list has.
-use Rattle.std.proofs.Common.{◌≡◌, ℕ, zero, suc, ◌+◌, ◌<◌, List, [], ◌∷◌, ◌++◌, length, get_or, Contains, ◌⊎◌, inl, inr, ⊎_elim, refl, sym, ap, ◌∙◌, subst, arith, length-append}
+use Rattle.std.proofs.Common.{◌≡◌, ℕ, zero, suc, ◌<◌, List, [], ◌∷◌, ◌++◌, length, get_or, Contains, ◌⊎◌, inl, inr, ⊎_elim, refl, ap, ◌∙◌, arith, length-append}
 
 -- nothing is in the empty list
 pub none_in : {X : Type 0} (x : X) → ¬ Contains [] x
 none_in x h = absurd (omega (arith, h.1))
 
+-- the first of a list is in it
 pub in_here : {X : Type 0} (x : X) (xs : List X) → Contains (x ∷ xs) x
 in_here x xs = (0, (omega arith), refl)
 
+-- and so is what stands after the first
 pub in_there : {X : Type 0} (x : X) (xs : List X) (y : X) → Contains xs y → Contains (x ∷ xs) y
 in_there x xs y h = (suc h.0, (omega (arith, h.1)), h.2)
 
+-- by the place in the list
 at_cons : {X : Type 0} (x : X) (xs : List X) (y : X) (k : ℕ) → k < length (x ∷ xs) → get_or (x ∷ xs) k y ≡ y → (x ≡ y) ⊎ Contains xs y
 at_cons x xs y zero lt e = inl e
 at_cons x xs y (suc k) lt e = inr (k, (omega (arith, lt)), e)

@@ -1,16 +1,16 @@
 -- What the loop of the walk keeps.
-use Rattle.std.proofs.Common.{◌≡◌, ◌↔◌, ℕ, zero, suc, ◌+◌, ◌-◌, ◌<◌, ◌≤◌, Bool, true, false, cond, List, [], ◌∷◌, ◌++◌, length, get_or, set, drop, map, replicate, reverse, sum_by, Option, Some, None, Contains, ◌⊎◌, inl, inr, ⊎_elim, refl, sym, ap, ◌∙◌, subst, arith, rules}
+use Rattle.std.proofs.Common.{◌≡◌, ℕ, zero, suc, ◌+◌, ◌-◌, ◌<◌, ◌≤◌, Bool, true, false, cond, List, [], ◌∷◌, ◌++◌, length, get_or, set, drop, map, replicate, reverse, sum_by, Some, None, Contains, ◌⊎◌, inl, inr, ⊎_elim, refl, sym, ap, ◌∙◌, subst, arith}
 use Rattle.std.specs.List.{slice_get}
 use Rattle.std.proofs.lemmas.Bool.{cases_eq, cases_lt, false≢true}
 use Rattle.std.proofs.lemmas.List.{get_or-set_same, get_or-set_other, length-set, length-replicate, get_or-replicate, get_or_past, drop_more, drop_all, reverse-append}
 use Rattle.std.proofs.lemmas.List.Sums.{sum_by-set, sum_by_push, get_or-le-sum_by}
 use Rattle.std.proofs.lemmas.List.Elements.{Contains-append_left, Contains-push, Contains-push_cases, Contains-get_or}
-use Rattle.std.proofs.lemmas.Option.{slice_get_within, get_or_from_slice_get, slice_get-get_or}
+use Rattle.std.proofs.lemmas.Option.{slice_get_within, get_or_from_slice_get}
 use Rattle.at_tree.specs.declared.walk.Stage.{Stage}
 use Rattle.at_tree.specs.Tree.{children, entered, IsTree}
 use Rattle.at_tree.proofs.Members.{none_in, in_here, in_there, in_cons}
 use Rattle.at_tree.proofs.Walks.{Walks, done, again, first}
-use Rattle.at_tree.proofs.Fuel.{IsTrail, trail_new, trail_more}
+use Rattle.at_tree.proofs.Depth.{IsTrail, trail_new, trail_more}
 
 -- the classes of stages
 abbrev pub classes : List Stage → List ℕ
@@ -38,6 +38,7 @@ on s = record s { next = s.next + 1 }
 abbrev pub fresh : ℕ → Stage
 fresh d = record { class = d; next = 0 }
 
+-- before the walk no class is seen
 none_seen : (n d : ℕ) → get_or (replicate n false) d false ≡ false
 none_seen n d = ⊎_elim (get_or-replicate n d false false) (λ le. get_or_past (replicate n false) d false (omega (arith, length-replicate {A = Bool} n false))) (cases_lt d n)
 
@@ -48,6 +49,7 @@ at_end (x ∷ xs) zero e = cc
 at_end (x ∷ xs) (suc i) e = omega (arith, at_end xs i e)
 
 module _ (tree : List (List ℕ)) (stop : List Bool) (t : IsTree tree) (c : ℕ) where
+  -- at the start c is gone through and nothing is in the list
   pub start : c < length tree → Going tree stop c (set (replicate (length tree) false) c true) (fresh c ∷ []) []
   start lt =
       let n : ℕ = length tree in
@@ -63,9 +65,9 @@ module _ (tree : List (List ℕ)) (stop : List Bool) (t : IsTree tree) (c : ℕ)
         in_seen = λ d h. ⊎_elim
             (λ none. absurd (none_in d none))
             (λ one. ⊎_elim
-                (λ at. ap (λ x. get_or (set (replicate n false) c true) x false) (sym at) ∙ get_or-set_same (replicate n false) c true false in_seen)
-                (λ none. absurd (none_in d none))
-                (in_cons c [] d one))
+            (λ at. ap (λ x. get_or (set (replicate n false) c true) x false) (sym at) ∙ get_or-set_same (replicate n false) c true false in_seen)
+            (λ none. absurd (none_in d none))
+            (in_cons c [] d one))
             h;
       }
 
@@ -95,6 +97,7 @@ module _ (tree : List (List ℕ)) (stop : List Bool) (t : IsTree tree) (c : ℕ)
           let below : List ℕ = entered tree stop s.class in
           drop_more below s.next d (slice_get_within below s.next d at) ∙ ap (λ x. x ∷ drop (s.next + 1) below) (get_or_from_slice_get below s.next d d at)
 
+      -- it is entered from the stage's class
       below_in : Contains (entered tree stop s.class) d
       below_in =
           let below : List ℕ = entered tree stop s.class in
@@ -155,18 +158,17 @@ work tree stop seen stages = unseen_work tree seen + stage_work tree stop stages
 entered_short : (tree : List (List ℕ)) (stop : List Bool) (d : ℕ) → d < length tree → length (entered tree stop d) ≤ sum_by length tree
 entered_short tree stop d lt =
     elim (get_or stop d false) as (λ b. length (cond b [] (children tree d)) ≤ sum_by length tree) [
-        true ↦ omega arith
-        | false ↦ get_or-le-sum_by length tree d [] lt
+      | true ↦ omega arith
+      | false ↦ get_or-le-sum_by length tree d [] lt
     ]
 
-pub less_left : (tree : List (List ℕ)) (stop seen : List Bool) (stages : List Stage) (s : Stage) → work tree stop seen stages < work tree stop seen (stages ++ s ∷ [])
-less_left tree stop seen stages s = omega (arith, sum_by_push (λ s. 1 + (length (entered tree stop s.class) - s.next)) stages s)
-
+-- a class that adds nothing leaves less to do
 pub less_skipped : (tree : List (List ℕ)) (stop seen : List Bool) (stages : List Stage) (s : Stage) → s.next < length (entered tree stop s.class) → work tree stop seen (stages ++ on s ∷ []) < work tree stop seen (stages ++ s ∷ [])
 less_skipped tree stop seen stages s lt =
     let weight : Stage → ℕ = λ s. 1 + (length (entered tree stop s.class) - s.next) in
     omega (arith, sum_by_push weight stages s, sum_by_push weight stages (on s))
 
+-- a class that is gone into leaves less to do
 pub less_entered : (tree : List (List ℕ)) (stop seen : List Bool) (stages : List Stage) (s : Stage) (d : ℕ) → s.next < length (entered tree stop s.class) → d < length tree → d < length seen → get_or seen d false ≡ false → work tree stop (set seen d true) ((stages ++ on s ∷ []) ++ fresh d ∷ []) < work tree stop seen (stages ++ s ∷ [])
 less_entered tree stop seen stages s d lt in_tree in_seen new =
     let weight : Stage → ℕ = λ s. 1 + (length (entered tree stop s.class) - s.next) in
@@ -176,19 +178,20 @@ less_entered tree stop seen stages s d lt in_tree in_seen new =
 
 -- The steps of the loop, whose stages have the innermost at the end: s is taken off the end and rest stays.
 module _ (tree : List (List ℕ)) (stop : List Bool) (t : IsTree tree) (c : ℕ) (seen : List Bool) (stages rest : List Stage) (s : Stage) (list : List ℕ) (at : stages ≡ rest ++ s ∷ []) (g : Going tree stop c seen (reverse stages) list) where
+  -- s is the innermost stage
   top : Going tree stop c seen (s ∷ reverse rest) list
   top = subst (λ ss. Going tree stop c seen ss list) (ap reverse at ∙ reverse-append rest (s ∷ [])) g
 
+  -- nothing is left below s: its class is added
   pub left : (out : List ℕ) → slice_get (entered tree stop s.class) s.next ≡ None → out ≡ list ++ s.class ∷ [] → Going tree stop c seen (reverse rest) out
   left out past e = subst (Going tree stop c seen (reverse rest)) (sym e) (leave tree stop t c seen s (reverse rest) list top past)
 
-  pub left_less : work tree stop seen rest < work tree stop seen stages
-  left_less = subst (λ ss. work tree stop seen rest < work tree stop seen ss) (sym at) (less_left tree stop seen rest s)
-
   module _ (d i : ℕ) (below : slice_get (entered tree stop s.class) s.next ≡ Some d) (same : i ≡ d) (next : List Stage) (on_at : next ≡ rest ++ on s ∷ []) where
+    -- the next class below s has its flag
     pub inside : i < length seen
     inside = omega (arith, (longer tree stop t c seen s (reverse rest) list top d below).0, top.size)
 
+    -- it was seen: s goes on
     pub skipped : get_or seen i false ≡ true → Going tree stop c seen (reverse next) list
     skipped old =
         subst (λ ss. Going tree stop c seen ss list) (sym (ap reverse on_at ∙ reverse-append rest (on s ∷ [])))
@@ -201,6 +204,7 @@ module _ (tree : List (List ℕ)) (stop : List Bool) (t : IsTree tree) (c : ℕ)
         (less_skipped tree stop seen rest s (slice_get_within (entered tree stop s.class) s.next d below)))
 
     module _ (new : get_or seen i false ≡ false) (last : List Stage) (fresh_at : last ≡ next ++ fresh d ∷ []) where
+      -- it wasn't seen: s goes on once it is gone through
       pub gone_into : Going tree stop c (set seen i true) (reverse last) list
       gone_into =
           subst (λ k. Going tree stop c (set seen k true) (reverse last) list) (sym same)
@@ -212,7 +216,7 @@ module _ (tree : List (List ℕ)) (stop : List Bool) (t : IsTree tree) (c : ℕ)
       gone_into_less =
           let low : d < length tree = (longer tree stop t c seen s (reverse rest) list top d below).0 in
           let less : work tree stop (set seen d true) ((rest ++ on s ∷ []) ++ fresh d ∷ []) < work tree stop seen (rest ++ s ∷ []) =
-              less_entered tree stop seen rest s d (slice_get_within (entered tree stop s.class) s.next d below) low (omega (arith, low, top.size)) (subst (λ k. get_or seen k false ≡ false) same new) in
+          less_entered tree stop seen rest s d (slice_get_within (entered tree stop s.class) s.next d below) low (omega (arith, low, top.size)) (subst (λ k. get_or seen k false ≡ false) same new) in
           subst (λ k. work tree stop (set seen k true) last < work tree stop seen stages) (sym same)
           (subst (λ ss. work tree stop (set seen d true) ss < work tree stop seen stages) (sym (fresh_at ∙ ap (λ ss. ss ++ fresh d ∷ []) on_at))
           (subst (λ ss. work tree stop (set seen d true) ((rest ++ on s ∷ []) ++ fresh d ∷ []) < work tree stop seen ss) (sym at) less))

@@ -1,8 +1,8 @@
 -- The walk as a relation, and what is true of its list.
-use Rattle.std.proofs.Common.{◌≡◌, ◌≢◌, ◌↔◌, ℕ, ◌<◌, Bool, false, List, [], ◌∷◌, ◌++◌, length, get_or, All, AllPairs, Contains, ◌⊎◌, inl, inr, ⊎_elim, refl, sym, ap, ◌∙◌, subst, arith}
+use Rattle.std.proofs.Common.{◌≡◌, ◌≢◌, ◌↔◌, ℕ, ◌<◌, Bool, false, List, [], ◌∷◌, ◌++◌, length, All, AllPairs, Contains, ◌⊎◌, inl, inr, ⊎_elim, sym, subst, arith}
 use Rattle.std.proofs.lemmas.List.Elements.{Contains-append_left, Contains-push, Contains-push_cases, Contains-get_or}
 use Rattle.std.proofs.lemmas.List.Quantifiers.{all_pairs_push}
-use Rattle.at_tree.specs.Tree.{children, entered, IsPath, Reaches, IsTree}
+use Rattle.at_tree.specs.Tree.{entered, IsPath, Reaches, IsTree}
 use Rattle.at_tree.specs.Walk.{IsWalk}
 use Rattle.at_tree.proofs.Members.{none_in, in_here, in_there, in_cons, in_middle, parted, parted_push}
 use Rattle.at_tree.proofs.Paths.{reach_here, reach_step, reach_unmarked, reach_all, reach_in, child_from_entered}
@@ -41,12 +41,12 @@ module _ (tree : List (List ℕ)) (stop : List Bool) where
   reached_from list (c ∷ cs) out (first {mid = mid} new v w) d h =
       ⊎_elim
       (λ before. ⊎_elim
-          (λ in_mid. ⊎_elim
-              inl
-              (λ r. inr (c, (in_here c cs), (reach_step tree stop c r.0 d r.1 r.2)))
-              (reached_from list (entered tree stop c) mid v d in_mid))
-          (λ at. inr (c, (in_here c cs), (reach_here tree stop c d at)))
-          (Contains-push_cases mid c d before))
+      (λ in_mid. ⊎_elim
+      inl
+      (λ r. inr (c, (in_here c cs), (reach_step tree stop c r.0 d r.1 r.2)))
+      (reached_from list (entered tree stop c) mid v d in_mid))
+      (λ at. inr (c, (in_here c cs), (reach_here tree stop c d at)))
+      (Contains-push_cases mid c d before))
       (λ r. inr (r.0, (in_there c cs r.0 r.1), r.2))
       (reached_from (mid ++ c ∷ []) cs out w d h)
 
@@ -91,10 +91,10 @@ module _ (tree : List (List ℕ)) (stop : List Bool) where
     walk_from c out lt w =
         let o : IsOrdered tree stop out = ordered [] (c ∷ []) out w (record { before = λ front back d e at h. absurd (none_in d (subst (λ xs. Contains xs d) (sym at) (in_middle front d back))) }) in
         let sound : (d : ℕ) → Contains out d → Reaches tree stop c d =
-            λ d h. ⊎_elim
-                (λ none. absurd (none_in d none))
-                (λ r. ⊎_elim (λ at. subst (λ x. Reaches tree stop x d) (sym at) r.2) (λ none. absurd (none_in r.0 none)) (in_cons c [] r.0 r.1))
-                (reached_from [] (c ∷ []) out w d h) in
+        λ d h. ⊎_elim
+        (λ none. absurd (none_in d none))
+        (λ r. ⊎_elim (λ at. subst (λ x. Reaches tree stop x d) (sym at) r.2) (λ none. absurd (none_in r.0 none)) (in_cons c [] r.0 r.1))
+        (reached_from [] (c ∷ []) out w d h) in
         record {
           numbers = λ k d in_out. reach_in tree t c _ lt (reach_unmarked tree stop c _ (sound _ (Contains-get_or out k d in_out)));
           once = once_each [] (c ∷ []) out w (λ i j d _ none. absurd (omega arith));

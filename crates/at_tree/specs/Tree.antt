@@ -1,6 +1,6 @@
 -- The direct subclasses of each class, as plain lists: at a class's number the numbers of its direct
 -- subclasses, in the order in which they joined (the language reference on `type.__subclasses__()`).
-use Rattle.std.specs.Prelude.{◌≡◌, ◌≢◌, ℕ, ◌<◌, ◌^◌, Bool, not, ◌==◌, if◌then◌else◌, List, [], ◌∷◌, ◌++◌, length, false, filter, AllPairs, Contains, slice_index_or}
+use Rattle.std.specs.Prelude.{◌≡◌, ◌≢◌, ℕ, ◌<◌, ◌^◌, Bool, not, ◌==◌, if◌then◌else◌, List, [], ◌∷◌, length, false, filter, AllPairs, Contains, slice_index_or}
 
 -- the direct subclasses of a class
 abbrev pub children : List (List ℕ) → ℕ → List ℕ
@@ -26,6 +26,9 @@ Reaches tree stop c d = (path : List ℕ) × IsPath tree stop c path d
 -- What is true of every tree.
 pub record IsTree (tree : List (List ℕ)) : Type 0 where
   pub small : length tree < 2 ^ 16
+  -- a direct subclass is a class of the tree
   pub numbers : (c d : ℕ) → Contains (children tree c) d → d < length tree
+  -- no class has a direct subclass twice
   pub once : (c : ℕ) → AllPairs (λ x y. x ≢ y) (children tree c)
+  -- no class lies below itself
   pub acyclic : (c d : ℕ) → Contains (children tree c) d → ¬ Reaches tree [] d c

@@ -13,7 +13,7 @@ walked (suc depth) tree stop list c = if list_any (nat_eq c) list then list else
 abbrev pub walk_of : List (List ℕ) → List Bool → ℕ → List ℕ
 walk_of tree stop c = walked (length tree) tree stop [] c
 
--- What a reader wants of the walk from c.
+-- The list is in the order of a walk from c.
 pub record IsWalk (tree : List (List ℕ)) (stop : List Bool) (c : ℕ) (list : List ℕ) : Type 0 where
   -- each is a class of the tree
   pub numbers : All (λ d. d < length tree) list

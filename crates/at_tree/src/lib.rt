@@ -5,17 +5,17 @@ ghost use Rattle.std.specs.Prelude.{◌≡◌, ◌↔◌, ℕ, ◌<◌, false, [
 ghost use Rattle.at_tree.specs.Tree.{children, without, Reaches, IsTree};
 ghost use Rattle.at_tree.specs.Walk.{IsWalk, walk_of};
 
-mod walk;
-
 #[cfg(test)]
 mod tests;
+mod walk;
 
 use std::alloc::{AllocError, Global};
 use std::marker::Model;
 
-/// For each class, by number, the list of its direct subclasses in the order in which they joined.
+/// For each class, by number, the list of its direct subclasses in the order in which they joined,
+/// as `type.__subclasses__()` gives it (the language reference, "Data model").
 ///
-/// No class lies below itself.
+/// Seen as the list of these lists. No class lies below itself.
 #[derive(Drop)]
 pub struct Tree {
     lists: Vec<Vec<u16>>,
@@ -33,7 +33,7 @@ impl Model for Tree {
 }
 
 impl Tree {
-    /// The classes 0 to n - 1, none of which has a subclass.
+    /// The classes 0 to n - 1, none of which has a subclass. The one error is out of memory.
     pub fn new(alloc: Global, n: u16) -> Result<Tree, AllocError>
         ensures { IfOk result (λ tree. tree ≡ replicate n []) }
     {
@@ -52,32 +52,43 @@ impl Tree {
         self.lists.len() as u16
     }
 
-    /// Makes c the last of the direct subclasses of the base. Out of memory changes nothing.
+    /// Makes c the last of the direct subclasses of the base. The one error is out of memory, and
+    /// changes nothing.
+    ///
+    /// The pair may not be there yet, and the base may neither be c nor lie below it.
     pub fn add(&mut self, base: u16, c: u16) -> Result<(), AllocError>
         requires base_in { base < length self.old }
         requires c_in { c < length self.old }
         requires absent { ¬ Contains (children self.old base) c }
         requires not_below { ¬ Reaches self.old [] c base }
-        ensures ok { OnOk result (self.new ≡ slice_set self.old base (children self.old base ++ c ∷ [])) }
+        ensures ok { OnOk result
+            (self.new ≡ slice_set self.old base (children self.old base ++ c ∷ [])) }
         ensures err { OnErr result (self.new ≡ self.old) }
+
+        // What lies below c stays.
+        ensures below_c { (d : ℕ) → Reaches self.new [] c d ↔ Reaches self.old [] c d }
     {
         self.lists[usize::from(base)].push(c)?;
         Ok(())
     }
 
-    /// Takes c from the direct subclasses of the base, which keep their order.
+    /// Takes c, which is there, from the direct subclasses of the base. The others keep their order.
     pub fn remove(&mut self, base: u16, c: u16)
         requires base_in { base < length self.old }
         requires present { Contains (children self.old base) c }
-        ensures { self.new ≡ slice_set self.old base (without (children self.old base) c) }
+        ensures removed { self.new ≡ slice_set self.old base (without (children self.old base) c) }
+
+        // What lies below c stays.
+        ensures below_c { (d : ℕ) → Reaches self.new [] c d ↔ Reaches self.old [] c d }
     {
         take_out(&mut self.lists[usize::from(base)], c);
     }
 
-    /// The class and all that lies below it, each once, a class after its subclasses; the direct subclasses of a
-    /// class in the order of its list.
+    /// The class and all that lies below it, each once, a class after its subclasses, and the direct
+    /// subclasses of a class in the order of their list. The one error is out of memory.
     ///
-    /// Below a class that `stop` marks, by its number, nothing is entered. The marked class itself is in the list.
+    /// From a class that `stop` marks, by number, nothing is entered: the class is in the list, and
+    /// what lies only below it isn't.
     pub fn below(&self, c: u16, stop: &[bool]) -> Result<Vec<u16>, AllocError>
         requires class_in { c < length self.now }
         requires marks { length stop.now ≡ length self.now }

@@ -1,5 +1,5 @@
 //! Walks over small trees. The wanted lists are worked out by hand.
-ghost use Rattle.std.specs.Prelude.{◌≡◌, ◌<◌, false, ◌∷◌, [], ◌++◌, length, OnOk, IfOk};
+ghost use Rattle.std.specs.Prelude.{◌≡◌, ◌<◌, false, ◌∷◌, [], ◌++◌, length, Contains, OnOk, IfOk};
 ghost use Rattle.at_tree.specs.Tree.{children, Reaches};
 
 use super::Tree;
@@ -10,7 +10,8 @@ use std::test::Fail;
 /// Whether a class is another or lies below it.
 fn reaches(alloc: Global, tree: &Tree, c: u16, d: u16) -> Result<bool, AllocError>
     requires { c < length tree.now }
-    ensures { IfOk result (λ yes. yes ≡ false → ¬ Reaches tree.now [] c d) }
+    ensures apart { IfOk result (λ yes. yes ≡ false → ¬ Reaches tree.now [] c d) }
+    ensures no_pair { IfOk result (λ yes. yes ≡ false → ¬ Contains (children tree.now c) d) }
 {
     let unmarked = vec![in alloc; false; usize::from(tree.size())]?;
     let list = tree.below(c, &unmarked)?;

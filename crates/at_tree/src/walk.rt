@@ -13,11 +13,13 @@ struct Stage {
     next: usize,
 }
 
-/// The next class that the walk enters from the stage's class, and none past the last or where the class is marked.
+/// The next class that the walk enters from the stage's class. None past the last, and where the
+/// class is marked.
 fn next_below(lists: &[Vec<u16>], stop: &[bool], stage: Stage) -> Option<u16>
     requires class_in { stage.class < length lists.now }
     requires marks { length stop.now ≡ length lists.now }
-    ensures value { result ≡ slice_get (entered (map (λ v. v.items) lists.now) stop.now stage.class) stage.next }
+    ensures value { result
+        ≡ slice_get (entered (map (λ v. v.items) lists.now) stop.now stage.class) stage.next }
     ensures small { OnSome result (stage.next < usize.MAX) }
 {
     let class = usize::from(stage.class);
@@ -27,8 +29,9 @@ fn next_below(lists: &[Vec<u16>], stop: &[bool], stage: Stage) -> Option<u16>
     lists[class].get(stage.next).copied()
 }
 
-/// The class and all that lies below it, entered through no marked class.
-pub fn post_order(
+/// The class and all that lies below it, entered through no marked class. The time is linear in the
+/// number of classes and of the pairs that are entered.
+pub(crate) fn post_order(
     alloc: Global,
     lists: &[Vec<u16>],
     stop: &[bool],
@@ -37,8 +40,10 @@ pub fn post_order(
     requires tree { IsTree (map (λ v. v.items) lists.now) }
     requires class_in { c < length lists.now }
     requires marks { length stop.now ≡ length lists.now }
-    ensures walk { IfOk result (λ list. IsWalk (map (λ v. v.items) lists.now) stop.now c list.items) }
-    ensures exact { IfOk result (λ list. list.items ≡ walk_of (map (λ v. v.items) lists.now) stop.now c) }
+    ensures walk { IfOk result (λ list.
+        IsWalk (map (λ v. v.items) lists.now) stop.now c list.items) }
+    ensures exact { IfOk result (λ list.
+        list.items ≡ walk_of (map (λ v. v.items) lists.now) stop.now c) }
 {
     let mut seen = vec![in alloc; false; lists.len()]?;
     let mut stages = Vec::with_capacity(alloc, lists.len())?;

@@ -5,3 +5,4 @@ pub mod Step
 pub mod History
 pub mod Final
 pub mod Plain
+pub mod Laws

@@ -5,7 +5,8 @@ use Rattle.at_value.specs.declared.operation.Op as op
 use Rattle.at_value.specs.declared.operation.Op.TheVariants as ops
 use Rattle.at_world.specs.declared.rows.ClassRow.{ClassRow}
 use Rattle.at_world.specs.World.{World, Map, row_of, order_in}
-use Rattle.at_world.specs.Step.{Outcome, step, is_done}
+use Rattle.at_world.specs.Attributes.{Outcome}
+use Rattle.at_world.specs.Step.{step, is_done}
 use Rattle.at_world.specs.declared.rows.Object.{Object}
 
 pub record State : Type 0 where

@@ -5,7 +5,9 @@
 mod binding;
 mod last;
 mod line;
+mod lookup;
 mod plain;
+mod rows;
 #[cfg(test)]
 mod tests;
 
@@ -13,3 +15,4 @@ pub use binding::{Step, Three, bind_get, bind_set};
 pub use last::{ClassEnd, ClassEnds, Final, ObjEnd, ObjEnds, Ran};
 pub use line::{Line, LineOp, LineReply, Lines, Local, What};
 pub use plain::Plain;
+pub use rows::{ClassRow, Object};

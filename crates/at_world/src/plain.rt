@@ -1,16 +1,16 @@
 //! The data model, run as it is written: a world, and the operations on it one after another.
-ghost use Rattle.std.specs.Prelude.{◌≡◌, ◌<◌, ◌≤◌, ◌↔◌, ◌∷◌, ◌++◌, [], ℕ, Some, None, IsTrue, is_some, nat_lt, IfOk, OnErr, length, map, slice_get, slice_index_or};
-ghost use Rattle.at_value.specs.Numbers as numbers;
+ghost use Rattle.std.specs.Prelude.{◌≡◌, ◌<◌, ◌≤◌, ◌∷◌, ◌++◌, [], ℕ, Some, None, IsTrue, is_some, nat_lt, false, IfOk, OnOk, OnErr, IsErrOf, length, map, replicate, slice_get, slice_set, slice_index_or};
+ghost use Rattle.at_value.specs.Pairs.{value_at, with_value};
 ghost use Rattle.at_world.specs.World as world;
+ghost use Rattle.at_world.specs.Binding.{bound_set};
 ghost use Rattle.at_world.specs.Attributes as attributes;
 ghost use Rattle.at_world.specs.Step as steps;
-ghost use Rattle.at_world.specs.Final.{final_of};
-ghost use Rattle.at_world.specs.Plain.{IsKnown, stepped, counted};
-ghost use Rattle.at_value.specs.Pairs.{value_at, with_value};
+ghost use Rattle.at_world.specs.Final.{final_of, class_ends, object_end, order_or_none};
+ghost use Rattle.at_world.specs.Plain.{IsKnown, stepped, lists_of};
 
 use crate::binding::{Step, Three, bind_get, bind_set};
-use crate::lookup::{class_row, find_along_order};
 use crate::last::{ClassEnd, Final, ObjEnd};
+use crate::lookup::{class_row, find_along_order};
 use crate::rows::{ClassRow, Object};
 use at_c3::{List, MergeFault, order_of_slices};
 use at_value::{Bases, Class, ClassList, Name, Obj, Op, Pairs, Place, Reply, Sequence, Value};
@@ -19,7 +19,7 @@ use std::alloc::{AllocError, Global};
 use std::marker::Model;
 
 /// How many class numbers there are.
-const CLASSES: usize = Class::COUNT as usize;
+const CLASSES: usize = 255;
 
 /// What an object has that is no descriptor.
 const NO_THREE: Three = Three {
@@ -174,7 +174,8 @@ impl Plain {
 
     /// The effect of an operation all of whose classes and objects are made.
     fn perform(&mut self, op: &Op) -> Result<Reply, AllocError>
-        requires { IsKnown op.now }
+        requires known { IsKnown op.now }
+        requires made { IsTrue (steps.are_made self.old.world (steps.classes_in op.now)) }
         ensures ok { IfOk result (λ reply. (reply ≡ (steps.effect self.old.world op.now).reply) × (self.new ≡ record { world = (steps.effect self.old.world op.now).world; place = self.old.place })) }
         ensures err { OnErr result (self.new ≡ self.old) }
     {
@@ -243,14 +244,14 @@ impl Plain {
 
     /// Makes a class, where it has an order.
     fn define(&mut self, c: Class, bases: &Bases) -> Result<Reply, AllocError>
-        requires free { steps.is_made self.old.world c ≡ false }
+        requires free { world.row_of self.old.world.classes c ≡ None }
         requires made { IsTrue (steps.are_made self.old.world bases.now) }
         ensures ok { IfOk result (λ reply. let changed = steps.if_ordered self.old.world (steps.with_class self.old.world c bases.now) in (reply ≡ changed.reply) × (self.new ≡ record { world = changed.world; place = self.old.place })) }
         ensures err { OnErr result (self.new ≡ self.old) }
     {
+        let i = usize::from(c.number());
         match self.order_with(c, bases) {
             Ok(order) => {
-                let i = usize::from(c.number());
                 self.classes[i] = Some(ClassRow {
                     bases: *bases,
                     own: Pairs::new(self.alloc),
@@ -263,11 +264,12 @@ impl Plain {
         }
     }
 
-    /// The order of a class that is to be made, by the orders of its bases.
+    /// The order of a class that is to be made with these bases, by the orders of the bases.
     fn order_with(&self, c: Class, bases: &Bases) -> Result<List, MergeFault>
-        requires { IsTrue (steps.are_made self.now.world bases.now) }
-        ensures ordered { IfOk result (λ order. world.joined c bases.now (world.all_orders (map (world.order_of self.now.world) bases.now)) ≡ Some order.items) }
-        ensures none { IsErrOf result MergeFault.NoHead → world.joined c bases.now (world.all_orders (map (world.order_of self.now.world) bases.now)) ≡ None }
+        requires free { world.row_of self.now.world.classes c ≡ None }
+        requires made { IsTrue (steps.are_made self.now.world bases.now) }
+        ensures ordered { IfOk result (λ order. world.order_of (steps.with_class self.now.world c bases.now) c ≡ Some order.items) }
+        ensures none { IsErrOf result MergeFault.NoHead → world.order_of (steps.with_class self.now.world c bases.now) c ≡ None }
     {
         let mut numbers: SmallVec<u16, 8> = SmallVec::new(self.alloc);
         let mut orders: SmallVec<&[u16], 8> = SmallVec::new(self.alloc);
@@ -275,7 +277,7 @@ impl Plain {
             numbers.push(base.number())?;
             orders.push(self.orders[usize::from(base.number())].as_slice())?;
         }
-        order_of_slices(self.alloc, c.number(), &numbers, &orders)
+        order_of_slices(self.alloc, c.number(), numbers.as_slice(), orders.as_slice())
     }
 
     /// Puts a value under a name of a class that is made.
@@ -380,15 +382,27 @@ impl Plain {
     {
         let mut ends = Vec::new(self.alloc);
         for i in 0..self.classes.len() {
-            if let (Some(row), Some(class)) = (&self.classes[i], Class::new(i as u16)) {
-                ends.push(ClassEnd {
-                    class,
-                    order: ClassList::of_numbers(self.alloc, &self.orders[i])?,
-                    own: row.own.copy(self.alloc)?,
-                })?;
+            let Some(c) = Class::new(i as u16) else {
+                return Ok(ends);
+            };
+            if let Some(row) = &self.classes[i] {
+                ends.push(self.class_end(c, row)?)?;
             }
         }
         Ok(ends)
+    }
+
+    /// A class that is made, whose row this is.
+    fn class_end(&self, c: Class, row: &ClassRow) -> Result<ClassEnd, AllocError>
+        requires { world.row_of self.now.world.classes c ≡ Some row.now }
+        ensures { IfOk result (λ end. end ≡ record { class = c; order = order_or_none (world.order_of self.now.world c); own = row.now.own }) }
+    {
+        let order = &self.orders[usize::from(c.number())];
+        Ok(ClassEnd {
+            class: c,
+            order: ClassList::of_numbers(self.alloc, order.as_slice())?,
+            own: row.own.copy(self.alloc)?,
+        })
     }
 
     /// The objects, by number.
@@ -415,12 +429,12 @@ fn first_classes(alloc: Global) -> Result<Vec<Option<ClassRow>>, AllocError>
     ensures { IfOk result (λ classes. classes.items ≡ world.opening.classes) }
 {
     let mut classes = Vec::with_capacity(alloc, CLASSES)?;
-    classes.push(Some(ClassRow {
+    classes.push_reserved(Some(ClassRow {
         bases: Bases::none(),
         own: Pairs::new(alloc),
-    }))?;
+    }));
     for _ in 1..CLASSES {
-        classes.push(None)?;
+        classes.push_reserved(None);
     }
     Ok(classes)
 }
@@ -432,9 +446,9 @@ fn first_orders(alloc: Global) -> Result<Vec<List>, AllocError>
     let mut orders = Vec::with_capacity(alloc, CLASSES)?;
     let mut first = SmallVec::new(alloc);
     first.push(0)?;
-    orders.push(first)?;
+    orders.push_reserved(first);
     for _ in 1..CLASSES {
-        orders.push(SmallVec::new(alloc))?;
+        orders.push_reserved(SmallVec::new(alloc));
     }
     Ok(orders)
 }
@@ -467,12 +481,17 @@ fn is_write_reply(reply: &Reply) -> bool
 
 /// Puts a value under a name of a class.
 fn put_own(classes: &mut [Option<ClassRow>], c: Class, n: Name, v: Value) -> Result<(), AllocError>
+    requires { length classes.old ≡ 255 }
     ensures ok { OnOk result (let row = world.row_of classes.old c in classes.new ≡ steps.with_names classes.old c row (with_value n v (world.own_of row))) }
     ensures err { OnErr result (classes.new ≡ classes.old) }
 {
-    match classes.get_mut(usize::from(c.number())) {
-        Some(Some(row)) => row.own.put(n, v),
-        _ => Ok(()),
+    let i = usize::from(c.number());
+    match &mut classes[i] {
+        Some(row) => {
+            row.own.put(n, v)?;
+            Ok(())
+        }
+        None => Ok(()),
     }
 }
 
@@ -481,8 +500,9 @@ fn put_in_dict(dicts: &mut [Pairs], d: Obj, n: Name, v: Value) -> Result<(), All
     ensures ok { OnOk result (dicts.new ≡ slice_set dicts.old d (with_value n v (slice_index_or dicts.old d []))) }
     ensures err { OnErr result (dicts.new ≡ dicts.old) }
 {
-    match dicts.get_mut(usize::from(d.number())) {
-        Some(dict) => dict.put(n, v),
-        None => Ok(()),
+    let i = usize::from(d.number());
+    if i < dicts.len() {
+        dicts[i].put(n, v)?;
     }
+    Ok(())
 }

@@ -1,4 +1,4 @@
-use Rattle.std.proofs.Common.{arith, rules}
+use Rattle.std.proofs.Common.{arith}
 use Rattle.at_source.proofs.Told.{read_more}
 use Rattle.at_source.proofs.whole.read_all.Goals as goal
 

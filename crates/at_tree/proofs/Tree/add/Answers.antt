@@ -1,6 +1,6 @@
-use Rattle.std.proofs.Common.{◌≡◌, ℕ, List, [], ◌∷◌, ◌++◌, Result, Ok, Err, OnErr, sym, ap, ◌∙◌, subst}
-use Rattle.at_tree.specs.Tree.{children, IsTree}
-use Rattle.at_tree.proofs.Changes.{written, rewritten, added}
+use Rattle.std.proofs.Common.{◌↔◌, ℕ, [], ◌∷◌, ◌++◌, Result, Ok, Err, OnErr, sym, subst}
+use Rattle.at_tree.specs.Tree.{Reaches, IsTree}
+use Rattle.at_tree.proofs.Changes.{written, rewritten, added, added_below}
 use Rattle.at_tree.proofs.Tree.add.Goals as goal
 
 -- what is true holds where there is an error
@@ -24,3 +24,14 @@ invariant_of-self-2 c =
 
 pub returns-clause-ok : goal.returns-clause-ok
 returns-clause-ok c = written (λ v. v.items) (λ list. list ++ c.args.c ∷ []) c.self.inside.lists.items _ _ _ _ c.push.new.self c.self.view_is c.from.ensures c.requires.base_in c.index_mut.ensures.value c.in_ok-push.ensures.items
+
+pub returns-in_err-push-clause-below_c : goal.returns-in_err-push-clause-below_c
+returns-in_err-push-clause-below_c c =
+    subst (λ tree. (d : ℕ) → Reaches tree [] c.args.c d ↔ Reaches c.args.self.now [] c.args.c d)
+    (sym (rewritten (λ v. v.items) c.self.inside.lists.items _ _ _ _ c.push.new.self c.self.view_is c.from.ensures c.requires.base_in c.index_mut.ensures.value c.in_err-push.ensures.items))
+    (λ d. ((λ r. r), (λ r. r)))
+
+pub returns-clause-below_c : goal.returns-clause-below_c
+returns-clause-below_c c =
+    subst (λ tree. (d : ℕ) → Reaches tree [] c.args.c d ↔ Reaches c.args.self.now [] c.args.c d) (sym (returns-clause-ok c))
+    (added_below c.args.self.now (subst IsTree c.self.view_is c.self.invariant) c.args.base c.args.c c.requires.base_in c.requires.not_below)

@@ -1,4 +1,4 @@
-use Rattle.std.proofs.Common.{◌≡◌, sym, ap, ◌∙◌, subst, [], replicate, arith}
+use Rattle.std.proofs.Common.{sym, subst, arith}
 use Rattle.at_tree.specs.Tree.{IsTree}
 use Rattle.at_tree.proofs.Changes.{empty}
 use Rattle.at_tree.proofs.Tree.new.Goals as goal

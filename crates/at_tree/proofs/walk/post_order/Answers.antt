@@ -1,10 +1,9 @@
-use Rattle.std.proofs.Common.{rules, ◌≡◌, ◌<◌, map, length, Contains, IfOk, ℕ, ◌+◌, Bool, true, false, List, [], ◌∷◌, ◌++◌, slice_index_or, slice_set, set, reverse, replicate, sym, ap, ◌∙◌, subst, arith}
+use Rattle.std.proofs.Common.{◌≡◌, ◌<◌, map, length, ℕ, Bool, true, false, List, [], ◌∷◌, ◌++◌, set, reverse, replicate, sym, ap, ◌∙◌, subst, arith}
 use Rattle.std.proofs.lemmas.List.{length-map, get_or_read, nil_from_length}
-use Rattle.at_tree.specs.Tree.{entered, IsTree}
-use Rattle.at_tree.specs.Walk.{IsWalk, walk_of}
+use Rattle.at_tree.specs.Tree.{IsTree}
 use Rattle.at_tree.specs.declared.walk.Stage.{Stage}
 use Rattle.at_tree.proofs.Walks.{Walks, walk_from}
-use Rattle.at_tree.proofs.Fuel.{walk_is}
+use Rattle.at_tree.proofs.Depth.{walk_is}
 use Rattle.at_tree.proofs.Stages.{Going, fresh, start, finish, left, inside, skipped, skipped_less, gone_into, gone_into_less}
 use Rattle.at_tree.proofs.walk.post_order.Goals as goal
 
@@ -15,7 +14,7 @@ walk-init c =
     let unseen = c.in_ok-seen.ensures.items_if_clones_equal (λ y h. h) in
     let stages : c.push.new.self.items ≡ fresh c.args.c ∷ [] = c.in_ok-push.ensures.items ∙ ap (λ ss. ss ++ fresh c.args.c ∷ []) c.in_ok-stages.ensures.items in
     let seen : set (replicate (length tree) false) c.args.c true ≡ set c.in_ok-seen.seen.items c.from.result true =
-        ap (λ n. set (replicate n false) c.args.c true) size ∙ sym (ap (λ xs. set xs c.args.c true) unseen) ∙ sym (ap (λ k. set c.in_ok-seen.seen.items k true) c.from.ensures) in
+    ap (λ n. set (replicate n false) c.args.c true) size ∙ sym (ap (λ xs. set xs c.args.c true) unseen) ∙ sym (ap (λ k. set c.in_ok-seen.seen.items k true) c.from.ensures) in
     subst (λ xs. Going tree c.args.stop.now c.args.c xs (reverse c.push.new.self.items) c.in_ok-list.list.items) seen
     (subst (λ ss. Going tree c.args.stop.now c.args.c (set (replicate (length tree) false) c.args.c true) (reverse ss) c.in_ok-list.list.items) (sym stages)
     (subst (Going tree c.args.stop.now c.args.c (set (replicate (length tree) false) c.args.c true) (fresh c.args.c ∷ [])) (sym c.in_ok-list.ensures.items)

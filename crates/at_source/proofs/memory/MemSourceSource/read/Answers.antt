@@ -1,4 +1,4 @@
-use Rattle.std.proofs.Common.{◌≡◌, ◌∙◌, ap, sym}
+use Rattle.std.proofs.Common.{◌∙◌, ap, sym}
 use Rattle.at_source.specs.Memory.{SourceState}
 use Rattle.at_source.proofs.Pieces.{copied_split}
 use Rattle.at_source.proofs.memory.MemSourceSource.read.Goals as goal

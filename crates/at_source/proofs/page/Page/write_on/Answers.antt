@@ -1,4 +1,4 @@
-use Rattle.std.proofs.Common.{◌≡◌, ◌∙◌, ap, sym}
+use Rattle.std.proofs.Common.{◌∙◌, ap, sym}
 use Rattle.at_source.specs.Page.{Held}
 use Rattle.at_source.proofs.Printing.{then_writes, sent_past}
 use Rattle.at_source.proofs.page.Page.write_on.Goals as goal

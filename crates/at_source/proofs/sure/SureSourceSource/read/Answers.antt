@@ -1,4 +1,4 @@
-use Rattle.std.proofs.Common.{◌≡◌, ◌∙◌, sym}
+use Rattle.std.proofs.Common.{◌∙◌, sym}
 use Rattle.at_source.proofs.Pieces.{copied_split}
 use Rattle.at_source.proofs.sure.SureSourceSource.read.Goals as goal
 

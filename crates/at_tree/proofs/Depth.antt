@@ -1,5 +1,5 @@
 -- The walk as a function: no more classes lie under one another than there are, so the depth is enough.
-use Rattle.std.proofs.Common.{◌≡◌, ℕ, zero, suc, ◌+◌, ◌<◌, ◌≤◌, Bool, true, false, cond, nat_eq, eqb, List, [], ◌∷◌, ◌++◌, length, fold, get_or, Contains, ◌⊎◌, inl, inr, ⊎_elim, Decides, refl, sym, ap, ◌∙◌, subst, arith, rules}
+use Rattle.std.proofs.Common.{◌≡◌, ℕ, zero, suc, ◌+◌, ◌<◌, ◌≤◌, Bool, true, false, cond, nat_eq, eqb, List, [], ◌∷◌, ◌++◌, length, fold, get_or, Contains, ⊎_elim, Decides, refl, sym, ap, ◌∙◌, subst, arith}
 use Rattle.std.specs.List.{list_any, IsDistinct}
 use Rattle.std.proofs.lemmas.Bool.{ne_eqb, false_from_ne_true}
 use Rattle.std.proofs.lemmas.Bool.Decides.{Decides-eqb}
@@ -7,7 +7,7 @@ use Rattle.std.proofs.lemmas.List.Elements.{Contains-get_or, recursion_from_All}
 use Rattle.std.proofs.lemmas.Map.Keys.{IsDistinct-cons}
 use Rattle.std.proofs.lemmas.Map.Made.{is_member-Decides}
 use Rattle.std.proofs.lemmas.Map.Steps.{length-le_from_distinct_below}
-use Rattle.at_tree.specs.Tree.{children, entered, IsPath, Reaches, IsTree}
+use Rattle.at_tree.specs.Tree.{children, entered, Reaches, IsTree}
 use Rattle.at_tree.specs.Walk.{walked, walk_of}
 use Rattle.at_tree.proofs.Members.{none_in, in_here, in_there, in_cons}
 use Rattle.at_tree.proofs.Paths.{reach_here, reach_step, reach_trans, child_from_entered}
@@ -17,9 +17,11 @@ use Rattle.at_tree.proofs.Walks.{Walks, done, again, first}
 pub has_is : (list : List ℕ) (c : ℕ) → Decides (list_any (nat_eq c) list) (Contains list c)
 has_is list c = is_member-Decides Decides-eqb list c
 
+-- the test holds of what is in the list
 pub has_true : (list : List ℕ) (c : ℕ) → Contains list c → list_any (nat_eq c) list ≡ true
 has_true list c h = (has_is list c).1 h
 
+-- and fails of what isn't
 pub has_false : (list : List ℕ) (c : ℕ) → ¬ Contains list c → list_any (nat_eq c) list ≡ false
 has_false list c h = false_from_ne_true _ (λ e. h ((has_is list c).0 e))
 
@@ -47,6 +49,7 @@ module _ (tree : List (List ℕ)) (stop : List Bool) (t : IsTree tree) where
   trail_new d (f ∷ fs) p h =
       t.acyclic f d p.1 (⊎_elim (λ at. reach_here tree [] d f (sym at)) (trail_reach f fs d p.2) (in_cons f fs d h))
 
+  -- no two classes of a trail are the same
   trail_distinct : (ds : List ℕ) → IsTrail tree ds → IsDistinct eqb ds
   unfolding IsDistinct
   trail_distinct [] p = tt
@@ -55,6 +58,7 @@ module _ (tree : List (List ℕ)) (stop : List Bool) (t : IsTree tree) where
       (recursion_from_All (λ y. eqb d y ≡ false) ds (λ k e lt. ne_eqb d (get_or ds k e) (λ at. trail_new d ds p (subst (Contains ds) (sym at) (Contains-get_or ds k e lt)))))
       (trail_distinct ds p.2)
 
+  -- a trail has classes of the tree
   trail_in : (ds : List ℕ) → IsTrail tree ds → (d : ℕ) → Contains ds d → d < length tree
   trail_in [] p d h = absurd (none_in d h)
   trail_in (e ∷ es) p d h = ⊎_elim (λ at. subst (λ x. x < length tree) at p.0) (trail_in es p.2 d) (in_cons e es d h)
@@ -69,10 +73,12 @@ module _ (tree : List (List ℕ)) (stop : List Bool) (t : IsTree tree) where
       let child : Contains (children tree c) d = child_from_entered tree stop c d h in
       (t.numbers c d child, child, p)
 
+  -- the function leaves the list where it has the class
   walked_again : (depth : ℕ) (list : List ℕ) (c : ℕ) → Contains list c → walked depth tree stop list c ≡ list
   walked_again zero list c h = refl
   walked_again (suc depth) list c h = ap (λ b. cond b list (fold (walked depth tree stop) list (entered tree stop c) ++ c ∷ [])) (has_true list c h)
 
+  -- else it adds the class behind what is entered from it
   walked_first : (depth : ℕ) (list mid : List ℕ) (c : ℕ) → ¬ Contains list c → fold (walked depth tree stop) list (entered tree stop c) ≡ mid → walked (suc depth) tree stop list c ≡ mid ++ c ∷ []
   walked_first depth list mid c h e =
       ap (λ b. cond b list (fold (walked depth tree stop) list (entered tree stop c) ++ c ∷ [])) (has_false list c h) ∙ ap (λ xs. xs ++ c ∷ []) e

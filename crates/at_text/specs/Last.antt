@@ -1,0 +1,44 @@
+-- How the final namespaces are written.
+use Rattle.std.specs.Prelude.{ℕ, ◌+◌, List, [], ◌∷◌, ◌++◌, if◌then◌else◌, codes}
+use Rattle.std.specs.List.{flat_map}
+use Rattle.std.specs.Ordering.{nat_cmp, is_le}
+use Rattle.std.specs.Cmp.Lexicographic.{slice_cmp}
+use Rattle.at_value.specs.declared.value.Value.{Value}
+use Rattle.at_world.specs.declared.last.ClassEnd.{ClassEnd}
+use Rattle.at_world.specs.declared.last.ObjEnd.{ObjEnd}
+use Rattle.at_script.specs.Parts.{Parts}
+use Rattle.at_text.specs.Values.{text_at, object_text, classes_text, value_text}
+
+-- the pairs with one more, before the first whose name doesn't come before its own by bytes
+abbrev pub with_pair : Parts → ℕ × Value → List (ℕ × Value) → List (ℕ × Value)
+with_pair s pair [] = pair ∷ []
+with_pair s pair (next ∷ rest) =
+    if is_le (slice_cmp nat_cmp (text_at s.names pair.0) (text_at s.names next.0))
+    then pair ∷ next ∷ rest
+    else next ∷ with_pair s pair rest
+
+-- the pairs, sorted by the bytes of their names
+abbrev pub by_bytes : Parts → List (ℕ × Value) → List (ℕ × Value)
+by_bytes s [] = []
+by_bytes s (pair ∷ pairs) = with_pair s pair (by_bytes s pairs)
+
+-- a name and its value: `.x V`
+abbrev pub pair_text : Parts → ℕ × Value → List ℕ
+pair_text s pair = codes "." ++ text_at s.names pair.0 ++ codes " " ++ value_text s pair.1 ++ codes "\n"
+
+-- the own names of a class or an object, by bytes
+abbrev pub own_text : Parts → List (ℕ × Value) → List ℕ
+own_text s own = flat_map (pair_text s) (by_bytes s own)
+
+-- a class: its order and its own names
+abbrev pub class_end_text : Parts → ClassEnd → List ℕ
+class_end_text s end = codes "class " ++ text_at s.classes end.class ++ codes " =" ++ classes_text s end.order ++ codes "\n" ++ own_text s end.own
+
+-- an object: its class and its names
+abbrev pub object_end_text : Parts → ℕ → ObjEnd → List ℕ
+object_end_text s o end = codes "object " ++ object_text o ++ codes " " ++ text_at s.classes end.class ++ codes "\n" ++ own_text s end.own
+
+-- the objects, from this number on
+abbrev pub object_ends_text : Parts → ℕ → List ObjEnd → List ℕ
+object_ends_text s o [] = []
+object_ends_text s o (end ∷ ends) = object_end_text s o end ++ object_ends_text s (o + 1) ends

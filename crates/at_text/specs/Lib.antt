@@ -1,0 +1,5 @@
+pub mod Prints
+pub mod Values
+pub mod Lines
+pub mod Last
+pub mod Transcript

@@ -1,0 +1,44 @@
+-- How names and values are written: in the words of the script that names them.
+use Rattle.std.specs.Prelude.{ℕ, List, [], ◌++◌, Option, Some, None, unwrap_or, slice_get, codes, decimal}
+use Rattle.std.specs.List.{flat_map}
+use Rattle.std.specs.Fmt.{signed_decimal}
+use Rattle.at_value.specs.declared.value.Value as values
+use Rattle.at_value.specs.declared.value.Value.TheVariants.{Nothing, Int, Text, Func, Prop, Static, ClassM, Class, Obj}
+use Rattle.at_script.specs.Parts.{Parts}
+
+-- the text of a number, and nothing where there is none
+abbrev pub text_at : List (List ℕ) → ℕ → List ℕ
+text_at texts n = unwrap_or (slice_get texts n) []
+
+-- an object: `#N`
+abbrev pub object_text : ℕ → List ℕ
+object_text o = codes "#" ++ decimal o
+
+-- an attribute of an object: `#N.x`
+abbrev pub object_attribute : Parts → ℕ → ℕ → List ℕ
+object_attribute s o x = object_text o ++ codes "." ++ text_at s.names x
+
+-- an attribute of a class: `C.x`
+abbrev pub class_attribute : Parts → ℕ → ℕ → List ℕ
+class_attribute s c x = text_at s.classes c ++ codes "." ++ text_at s.names x
+
+-- each class, with a blank before it
+abbrev pub classes_text : Parts → List ℕ → List ℕ
+classes_text s classes = flat_map (λ c. codes " " ++ text_at s.classes c) classes
+
+-- a part of a property: its function, or `-`
+abbrev pub part_text : Parts → Option ℕ → List ℕ
+part_text s None = codes "-"
+part_text s (Some f) = text_at s.funcs f
+
+-- A value, as scripts write it; an object, which none writes, is `#N`.
+abbrev pub value_text : Parts → values.Value → List ℕ
+value_text s Nothing = codes "none"
+value_text s (Int z) = signed_decimal z
+value_text s (Text x) = codes "\"" ++ text_at s.names x ++ codes "\""
+value_text s (Func f) = text_at s.funcs f
+value_text s (Prop p) = codes "prop:" ++ part_text s p.get ++ codes "," ++ part_text s p.set ++ codes "," ++ part_text s p.del
+value_text s (Static f) = codes "static:" ++ text_at s.funcs f
+value_text s (ClassM f) = codes "classm:" ++ text_at s.funcs f
+value_text s (Class c) = text_at s.classes c
+value_text s (Obj o) = object_text o

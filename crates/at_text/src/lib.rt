@@ -1,0 +1,15 @@
+//! The text of a transcript: what a run did, written in the words of its script.
+#![tactic(auto)]
+
+mod last;
+mod line;
+mod operation;
+mod order;
+mod pen;
+mod reply;
+#[cfg(test)]
+mod tests;
+mod transcript;
+mod value;
+
+pub use transcript::{PrintFault, print};

@@ -1,0 +1,163 @@
+//! Printing operations.
+use crate::pen::Pen;
+use crate::value::{
+    put_bases, put_class, put_class_attribute, put_object, put_object_attribute, put_value,
+};
+use at_script::Script;
+use at_source::Sink;
+use at_value::{Bases, Class, Name, Obj, Op, Value};
+use at_world::LineOp;
+
+/// Prints a word with a blank behind it, a class and its bases.
+fn put_with_bases<K: Sink>(
+    out: &mut K,
+    pen: &mut Pen,
+    names: &Script,
+    word: &[u8],
+    class: Class,
+    bases: &Bases,
+) {
+    pen.write(out, word);
+    put_class(out, pen, names, class);
+    put_bases(out, pen, names, bases);
+}
+
+/// Prints a word with a blank behind it, and a class.
+fn put_word_and_class<K: Sink>(
+    out: &mut K,
+    pen: &mut Pen,
+    names: &Script,
+    word: &[u8],
+    class: Class,
+) {
+    pen.write(out, word);
+    put_class(out, pen, names, class);
+}
+
+/// Prints a word with a blank behind it, and an attribute of a class.
+fn put_of_class<K: Sink>(
+    out: &mut K,
+    pen: &mut Pen,
+    names: &Script,
+    word: &[u8],
+    class: Class,
+    name: Name,
+) {
+    pen.write(out, word);
+    put_class_attribute(out, pen, names, class, name);
+}
+
+/// Prints a word with a blank behind it, and an attribute of an object.
+fn put_of_object<K: Sink>(
+    out: &mut K,
+    pen: &mut Pen,
+    names: &Script,
+    word: &[u8],
+    object: Obj,
+    name: Name,
+) {
+    pen.write(out, word);
+    put_object_attribute(out, pen, names, object, name);
+}
+
+/// Prints `put C.x V`.
+fn put_type_set<K: Sink>(
+    out: &mut K,
+    pen: &mut Pen,
+    names: &Script,
+    class: Class,
+    name: Name,
+    value: &Value,
+) {
+    put_of_class(out, pen, names, b"put ", class, name);
+    pen.write(out, b" ");
+    put_value(out, pen, names, value);
+}
+
+/// Prints `set #N.x V`.
+fn put_set<K: Sink>(
+    out: &mut K,
+    pen: &mut Pen,
+    names: &Script,
+    object: Obj,
+    name: Name,
+    value: &Value,
+) {
+    put_of_object(out, pen, names, b"set ", object, name);
+    pen.write(out, b" ");
+    put_value(out, pen, names, value);
+}
+
+/// Prints `turn #N C`.
+fn put_set_class<K: Sink>(out: &mut K, pen: &mut Pen, names: &Script, object: Obj, class: Class) {
+    pen.write(out, b"turn ");
+    put_object(out, pen, object);
+    pen.write(out, b" ");
+    put_class(out, pen, names, class);
+}
+
+/// Prints a word with a blank behind it, and two objects.
+fn put_two_objects<K: Sink>(out: &mut K, pen: &mut Pen, word: &[u8], first: Obj, second: Obj) {
+    pen.write(out, word);
+    put_object(out, pen, first);
+    pen.write(out, b" ");
+    put_object(out, pen, second);
+}
+
+/// Prints a word with a blank behind it, and an object.
+fn put_word_and_object<K: Sink>(out: &mut K, pen: &mut Pen, word: &[u8], object: Obj) {
+    pen.write(out, word);
+    put_object(out, pen, object);
+}
+
+/// Prints `super C #N.x`.
+fn put_super<K: Sink>(
+    out: &mut K,
+    pen: &mut Pen,
+    names: &Script,
+    class: Class,
+    object: Obj,
+    name: Name,
+) {
+    put_word_and_class(out, pen, names, b"super ", class);
+    pen.write(out, b" ");
+    put_object_attribute(out, pen, names, object, name);
+}
+
+/// Prints an operation of the data model.
+pub fn put_op<K: Sink>(out: &mut K, pen: &mut Pen, names: &Script, op: &Op) {
+    match op {
+        Op::Get(object, name) => put_of_object(out, pen, names, b"get ", *object, *name),
+        Op::Set(object, name, value) => put_set(out, pen, names, *object, *name, value),
+        Op::TypeSet(class, name, value) => put_type_set(out, pen, names, *class, *name, value),
+        Op::TypeGet(class, name) => put_of_class(out, pen, names, b"cget ", *class, *name),
+        Op::Del(object, name) => put_of_object(out, pen, names, b"del ", *object, *name),
+        Op::New(class) => put_word_and_class(out, pen, names, b"new ", *class),
+        Op::NewClass(class, bases) => put_with_bases(out, pen, names, b"class ", *class, bases),
+        Op::SetBases(class, bases) => put_with_bases(out, pen, names, b"bases ", *class, bases),
+        Op::TypeDel(class, name) => put_of_class(out, pen, names, b"cut ", *class, *name),
+        Op::SetClass(object, class) => put_set_class(out, pen, names, *object, *class),
+        Op::Share(object, other) => put_two_objects(out, pen, b"share ", *object, *other),
+        Op::Super(class, object, name) => put_super(out, pen, names, *class, *object, *name),
+        Op::Special(object, name) => put_of_object(out, pen, names, b"special ", *object, *name),
+        Op::ClassOf(object) => put_word_and_object(out, pen, b"classof ", *object),
+        Op::Mro(class) => put_word_and_class(out, pen, names, b"mro ", *class),
+    }
+}
+
+/// Prints the begin of a section.
+fn put_begin<K: Sink>(out: &mut K, pen: &mut Pen, first: Obj, second: Option<Obj>) {
+    match second {
+        Some(second) => put_two_objects(out, pen, b"begin ", first, second),
+        None => put_word_and_object(out, pen, b"begin ", first),
+    }
+}
+
+/// Prints the operation of a line.
+pub fn put_line_op<K: Sink>(out: &mut K, pen: &mut Pen, names: &Script, op: &LineOp) {
+    match op {
+        LineOp::Of(op) => put_op(out, pen, names, op),
+        LineOp::Begin(first, second) => put_begin(out, pen, *first, *second),
+        LineOp::Finish => pen.write(out, b"finish"),
+    }
+}

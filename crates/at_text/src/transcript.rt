@@ -1,0 +1,79 @@
+//! Printing a transcript.
+use crate::last::put_final;
+use crate::line::put_line;
+use crate::order::ByBytes;
+use crate::pen::Pen;
+use at_script::Script;
+use at_source::{Failed, Sink};
+use at_world::{Lines, Ran};
+use std::alloc::{AllocError, Global};
+
+/// Why a transcript wasn't printed to its end.
+#[derive(Clone, Copy, Debug, PartialEq, Eq)]
+pub enum PrintFault {
+    /// There was no memory for printing. Nothing was written.
+    NoMemory,
+    /// The sink failed.
+    WriteFault,
+}
+
+impl From<AllocError> for PrintFault {
+    ghost use Rattle.std.specs.Prelude.{◌≡◌};
+    ghost use Rattle.at_text.specs.declared.transcript.PrintFault.TheVariants as faults;
+
+    ghost from_gives = { λ _ fault. fault ≡ faults.NoMemory };
+
+    fn from(_: AllocError) -> PrintFault {
+        PrintFault::NoMemory
+    }
+}
+
+impl From<Failed> for PrintFault {
+    ghost use Rattle.std.specs.Prelude.{◌≡◌};
+    ghost use Rattle.at_text.specs.declared.transcript.PrintFault.TheVariants as faults;
+
+    ghost from_gives = { λ _ fault. fault ≡ faults.WriteFault };
+
+    fn from(_: Failed) -> PrintFault {
+        PrintFault::WriteFault
+    }
+}
+
+/// Prints the header and the bytes of the script.
+fn put_script<K: Sink>(out: &mut K, pen: &mut Pen, script: &[u8]) {
+    pen.write(out, b"attrs transcript 1\nscript ");
+    pen.number(out, script.len() as u64);
+    pen.write(out, b"\n");
+    pen.write(out, script);
+    pen.write(out, b"\n");
+}
+
+/// Prints the lines behind their number.
+fn put_lines<K: Sink>(out: &mut K, pen: &mut Pen, names: &Script, lines: &Lines) {
+    pen.write(out, b"lines ");
+    pen.number(out, lines.len() as u64);
+    pen.write(out, b"\n");
+    for line in lines.items() {
+        put_line(out, pen, names, line);
+    }
+}
+
+/// Prints the transcript of a run: the bytes of its script, its lines and its final namespaces.
+///
+/// The names are those of the script; one that it doesn't have is printed as nothing. All memory is taken before the
+/// first write: for a page of 65,536 bytes, for the order of the names and for the names of one namespace.
+pub fn print<K: Sink>(
+    alloc: Global,
+    script: &[u8],
+    names: &Script,
+    run: &Ran,
+    out: &mut K,
+) -> Result<(), PrintFault> {
+    let mut pen = Pen::new(alloc)?;
+    let mut order = ByBytes::new(alloc, names)?;
+    put_script(out, &mut pen, script);
+    put_lines(out, &mut pen, names, &run.lines);
+    put_final(out, &mut pen, names, &mut order, &run.last);
+    pen.finish(out)?;
+    Ok(())
+}

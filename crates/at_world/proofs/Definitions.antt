@@ -1,0 +1,129 @@
+-- What is kept, as classes are made and get names.
+use Rattle.std.proofs.Common.{◌≡◌, ◌∙◌, ap, sym, refl, subst, ℕ, zero, suc, ◌<◌, ◌≤◌, ◌∷◌, ◌++◌, length, get_or, set, take, drop, replicate, List, [], map, Option, Some, None, Bool, true, false, is_some, IsTrue, ◌==◌, lit<, arith}
+use Rattle.std.specs.List.{list_all}
+use Rattle.std.proofs.lemmas.Bool.{eq-eqb, or_left, or_right, false≢true}
+use Rattle.std.proofs.lemmas.List.{take_all, length-set, map-set, get_or-map, drop_all, append-nil}
+use Rattle.smallvec.specs.SmallVec.{SmallVec}
+use Rattle.at_c3.specs.Merge.{order_of_lists}
+use Rattle.at_c3.proofs.NumberLemmas.{has}
+use Rattle.at_value.specs.Classes.{AreClasses}
+use Rattle.at_value.specs.declared.reply.Reply.TheVariants as replies
+use Rattle.at_world.specs.declared.rows.ClassRow.{ClassRow}
+use Rattle.at_world.specs.declared.rows.Object.{Object}
+use Rattle.at_world.specs.World.{World, Map, row_of, order_in, order_of, opening}
+use Rattle.at_world.specs.Attributes.{Outcome}
+use Rattle.at_world.specs.Step.{with_names, with_class, unless_unordered, if_ordered}
+use Rattle.at_world.specs.Plain.{State, AreOrders, lists_of, IsKept}
+use Rattle.at_world.proofs.Orders.{order_members_made, made_below, order_begins}
+use Rattle.at_world.proofs.KeptOrders.{defined_order, AreOrders-defined, AreOrders-same_bases, same_bases-own, first_unordered-defined, first_unordered-undefined}
+
+-- the order of a class that is made with these bases, by what was gathered of them
+pub gathered_order : (classes : List (Option ClassRow)) (orders : List (List ℕ)) (c n i : ℕ) (bases items numbers : List ℕ) (found : List (List ℕ))
+    → AreOrders classes orders → row_of classes c ≡ None → c < length classes → IsTrue (list_all (λ b. is_some (row_of classes b)) bases)
+    → n ≡ c → items ≡ bases → length items ≤ i → numbers ≡ take i items → found ≡ map (λ b. get_or orders b []) (take i items)
+    → order_in (set classes c (Some (record { bases = bases; own = [] }))) c ≡ order_of_lists n numbers found
+gathered_order classes orders c n i bases items numbers found are free below made is_c are_bases past all_numbers all_found =
+    let whole : take i items ≡ bases = take_all i items past ∙ are_bases in
+    defined_order classes orders c (record { bases = bases; own = [] }) are free below made
+    ∙ rw (is_c, all_numbers, all_found, whole) refl
+
+-- the new class and its order are kept beside the others
+pub kept_defined : (classes : List (Option ClassRow)) (orders : List (SmallVec ℕ)) (objects : List Object) (dicts : List Map) (c i : ℕ) (bases : List ℕ) (own : Map) (order : SmallVec ℕ)
+    → IsKept classes (lists_of orders) objects dicts → row_of classes c ≡ None → c < 255
+    → order_in (set classes c (Some (record { bases = bases; own = [] }))) c ≡ Some order.items → i ≡ c → own ≡ []
+    → IsKept (set classes i (Some (record { bases = bases; own = own }))) (lists_of (set orders i order)) objects dicts
+kept_defined classes orders objects dicts c i bases own order kept free below is at empty =
+    rw (at, empty, map-set) (record {
+      numbered = length-set classes c (Some (record { bases = bases; own = [] })) ∙ kept.numbered;
+      ordered = length-set (lists_of orders) c order.items ∙ kept.ordered;
+      orders_are = AreOrders-defined classes (lists_of orders) c (record { bases = bases; own = [] }) order.items kept.orders_are free (omega (arith, kept.numbered)) (omega (arith, kept.ordered)) is;
+      few = kept.few;
+      named = kept.named;
+    })
+
+-- a class that has an order is made, and one that has none is refused
+pub made_outcome : (w : World) (orders : List (List ℕ)) (c : ℕ) (bases order : List ℕ) → AreOrders w.classes orders → row_of w.classes c ≡ None → order_of (with_class w c bases) c ≡ Some order
+    → if_ordered w (with_class w c bases) ≡ record { reply = replies.Done; world = with_class w c bases }
+made_outcome w orders c bases order are free is = ap (unless_unordered w (with_class w c bases)) (first_unordered-defined w c bases order orders are free is)
+
+pub refused_outcome : (w : World) (orders : List (List ℕ)) (c : ℕ) (bases : List ℕ) → AreOrders w.classes orders → row_of w.classes c ≡ None → c < length w.classes → order_of (with_class w c bases) c ≡ None
+    → if_ordered w (with_class w c bases) ≡ record { reply = replies.NoOrder c; world = w }
+refused_outcome w orders c bases are free below none = ap (unless_unordered w (with_class w c bases)) (first_unordered-undefined w c bases orders are free below none)
+
+-- the same as it is kept, with the count of the writes
+pub defined_state : (classes : List (Option ClassRow)) (orders : List (List ℕ)) (objects : List Object) (dicts : List Map) (place c i : ℕ) (bases order : List ℕ) (own : Map)
+    → AreOrders classes orders → row_of classes c ≡ None → (let w : World = record { classes = classes; objects = objects; dicts = dicts } in
+    order_of (with_class w c bases) c ≡ Some order → i ≡ c → own ≡ []
+    → (replies.Done ≡ (if_ordered w (with_class w c bases)).reply)
+    × (let now : State = record { world = record { classes = set classes i (Some (record { bases = bases; own = own })); objects = objects; dicts = dicts }; place = place } in
+    now ≡ record { world = (if_ordered w (with_class w c bases)).world; place = place }))
+defined_state classes orders objects dicts place c i bases order own are free is at empty =
+    let w : World = record { classes = classes; objects = objects; dicts = dicts } in
+    let outcome = made_outcome w orders c bases order are free is in
+    let state : World → State = λ w. record { world = w; place = place } in
+    (ap (λ (o : Outcome). o.reply) (sym outcome), rw (at, empty) (ap (λ (o : Outcome). state o.world) (sym outcome)))
+
+pub refused_state : (s : State) (orders : List (List ℕ)) (c : ℕ) (bases : List ℕ) → AreOrders s.world.classes orders → row_of s.world.classes c ≡ None → c < length s.world.classes → order_of (with_class s.world c bases) c ≡ None
+    → (replies.NoOrder c ≡ (if_ordered s.world (with_class s.world c bases)).reply) × (s ≡ record { world = (if_ordered s.world (with_class s.world c bases)).world; place = s.place })
+refused_state s orders c bases are free below none =
+    let outcome = refused_outcome s.world orders c bases are free below none in
+    let state : World → State = λ w. record { world = w; place = s.place } in
+    (ap (λ (o : Outcome). o.reply) (sym outcome), ap (λ (o : Outcome). state o.world) (sym outcome))
+
+-- names of a class change no order
+pub kept_names : (classes changed : List (Option ClassRow)) (orders : List (List ℕ)) (objects : List Object) (dicts : List Map) (c : ℕ) (names : Map)
+    → IsKept classes orders objects dicts → changed ≡ with_names classes c (row_of classes c) names → IsKept changed orders objects dicts
+kept_names classes changed orders objects dicts c names kept is =
+    rw is (elim (row_of classes c) as (λ row. row_of classes c ≡ row → IsKept (with_names classes c row names) orders objects dicts) [
+      | None ↦ λ _. kept
+      | Some row ↦ λ at. record {
+          numbered = length-set classes c (Some (record row { own = names })) ∙ kept.numbered;
+          ordered = kept.ordered;
+          orders_are = AreOrders-same_bases classes (set classes c (Some (record row { own = names }))) orders (same_bases-own classes c row names at) (sym (length-set classes c (Some (record row { own = names })))) kept.orders_are;
+          few = kept.few;
+          named = kept.named;
+        }
+    ] refl)
+
+none_made : (n c : ℕ) → row_of (replicate n None) c ≡ None
+none_made zero c = refl
+none_made (suc n) zero = refl
+none_made (suc n) (suc c) = none_made n c
+
+-- in the opening world the class `object` has itself as its order
+opening_orders : AreOrders opening.classes ((0 ∷ []) ∷ replicate 254 [])
+opening_orders zero made = refl
+opening_orders (suc c) made = absurd (false≢true (sym (ap is_some (none_made 254 c)) ∙ made))
+
+pub kept_opening : (classes : List (Option ClassRow)) (orders : List (List ℕ)) (objects : List Object) (dicts : List Map)
+    → classes ≡ opening.classes → orders ≡ (0 ∷ []) ∷ replicate 254 [] → objects ≡ [] → dicts ≡ [] → IsKept classes orders objects dicts
+kept_opening classes orders objects dicts are_classes are_orders no_objects no_dicts =
+    rw (are_classes, are_orders, no_objects, no_dicts) (record {
+      numbered = refl;
+      ordered = refl;
+      orders_are = opening_orders;
+      few = omega arith;
+      named = refl;
+    })
+
+-- the numbers of an order that is kept are those of classes
+are_classes_from_below : (order : List ℕ) → ((d : ℕ) → has d order ≡ true → d < 255) → AreClasses order
+are_classes_from_below [] below i = lit< tt
+are_classes_from_below (x ∷ xs) below zero = below x (or_left (x == x) (has x xs) (eq-eqb x x refl))
+are_classes_from_below (x ∷ xs) below (suc i) = are_classes_from_below xs (λ d at. below d (or_right (x == d) (has d xs) at)) i
+
+pub kept_order_numbers : (classes : List (Option ClassRow)) (orders : List (List ℕ)) (objects : List Object) (dicts : List Map) (c : ℕ) → IsKept classes orders objects dicts → IsTrue (is_some (row_of classes c))
+    → AreClasses (get_or orders c [])
+kept_order_numbers classes orders objects dicts c kept made =
+    are_classes_from_below (get_or orders c []) (λ d at.
+    let below = made_below classes d (order_members_made (suc (length classes)) classes c d (get_or orders c []) (kept.orders_are c made) at) in
+    omega (arith, below, kept.numbered))
+
+-- a list that is kept, read at an index
+pub list_at : (orders : List (SmallVec ℕ)) (i : ℕ) (list d : SmallVec ℕ) → i < length orders → list ≡ get_or orders i d → list.items ≡ get_or (lists_of orders) i []
+list_at orders i list d within is = ap (λ (l : SmallVec ℕ). l.items) is ∙ sym (get_or-map (λ (l : SmallVec ℕ). l.items) orders i d [] within)
+
+-- a vector whose slice was written has what the slice has
+pub refilled : {X : Type 0} (n : ℕ) (was now : List X) → n ≡ length was → length now ≡ length was → take n (now ++ drop (length now) was) ≡ now
+refilled n was now whole same =
+    ap (λ rest. take n (now ++ rest)) (drop_all (length now) was (omega (arith, same))) ∙ ap (take n) (append-nil now) ∙ take_all n now (omega (arith, whole, same))
