@@ -1,8 +1,8 @@
 -- What counts tell of the tails of lists, and what becomes of them.
-use Rattle.std.proofs.Common.{◌≡◌, ◌∙◌, ap, sym, refl, subst, ℕ, ◌<◌, ◌+◌, ◌==◌, length, get_or, set, List, [], ◌∷◌, ◌++◌, drop, slice_get, Option, Some, Bool, true, false, not, cond, ◌||◌, count_by, sum_by, remove, slice_index, arith, append_assoc}
+use Rattle.std.proofs.Common.{◌≡◌, ◌∙◌, ap, sym, refl, subst, ℕ, ◌<◌, ◌+◌, ◌==◌, length, get_or, set, List, [], ◌∷◌, ◌++◌, drop, slice_get, Some, Bool, true, false, not, cond, ◌||◌, count_by, sum_by, remove, slice_index, arith}
 use Rattle.std.specs.Borrow.{Bor}
 use Rattle.std.specs.List.{list_any, flat_map}
-use Rattle.std.proofs.lemmas.Bool.{ne_eqb, eq-eqb}
+use Rattle.std.proofs.lemmas.Bool.{ne_eqb}
 use Rattle.std.proofs.lemmas.List.{length-map, map-set, get_or-map}
 use Rattle.std.proofs.lemmas.List.Folds.{list_any-append}
 use Rattle.std.proofs.lemmas.List.Sums.{sum_by-cons, sum_by-append, sum_by-set, sum_by-remove}

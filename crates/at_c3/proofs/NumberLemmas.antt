@@ -1,7 +1,7 @@
 -- Which numbers stand in lists: tests by recursion, beside the facts that clauses state.
-use Rattle.std.proofs.Common.{◌≡◌, ◌∙◌, ap, sym, refl, subst, ℕ, ◌<◌, length, get_or, List, [], ◌∷◌, ◌++◌, map, drop, Bool, true, false, cond, ◌||◌, ◌==◌, Contains, Any, nat_eq}
-use Rattle.std.specs.List.{list_any, list_all, AllByRecursion}
-use Rattle.std.proofs.lemmas.Bool.{eqb-true, eq-eqb, ne_eqb, eqb-false, or_parts, or_from, or_left, or_right}
+use Rattle.std.proofs.Common.{◌≡◌, ◌∙◌, ap, sym, refl, subst, ℕ, get_or, List, [], ◌∷◌, map, drop, Bool, true, false, cond, ◌||◌, ◌==◌, Contains, Any, nat_eq}
+use Rattle.std.specs.List.{list_any, AllByRecursion}
+use Rattle.std.proofs.lemmas.Bool.{eqb-true, eq-eqb, ne_eqb, eqb-false, or_parts, or_from}
 use Rattle.std.proofs.lemmas.List.Folds.{Any-from_list_any, list_any-from_Any}
 use Rattle.at_c3.specs.Merge.{without_head}
 

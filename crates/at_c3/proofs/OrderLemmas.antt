@@ -1,7 +1,7 @@
 -- The numbers of a merge, and their order.
-use Rattle.std.proofs.Common.{◌≡◌, ◌∙◌, ap, sym, refl, ℕ, ◌==◌, ◌||◌, ◌&&◌, ◌⊎◌, inl, inr, suc, length, List, [], ◌∷◌, ◌++◌, map, drop, Some, Bool, true, false, not, cond, nat_eq, arith}
+use Rattle.std.proofs.Common.{◌≡◌, ◌∙◌, ap, sym, refl, ℕ, ◌==◌, ◌||◌, ◌⊎◌, inl, inr, suc, length, List, [], ◌∷◌, ◌++◌, map, drop, Some, true, false, not, cond, nat_eq, arith}
 use Rattle.std.specs.List.{list_any, list_all, AllByRecursion, IsDistinct}
-use Rattle.std.proofs.lemmas.Bool.{not-true, eq-eqb, eqb-true, or_left, or_right, or_from, and_parts, false≢true, ne_eqb}
+use Rattle.std.proofs.lemmas.Bool.{not-true, eq-eqb, eqb-true, or_left, or_right, and_parts, false≢true, ne_eqb}
 use Rattle.std.proofs.lemmas.List.Folds.{list_any-append}
 use Rattle.std.proofs.lemmas.Map.Keys.{IsDistinct-cons}
 use Rattle.at_c3.specs.Merge.{is_empty, next_head, stands_in_a_tail, without_head}

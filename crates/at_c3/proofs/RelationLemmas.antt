@@ -1,6 +1,6 @@
 -- The relation of the C3 paper, and the steps of a merge.
-use Rattle.std.proofs.Common.{◌≡◌, ◌∙◌, ap, sym, refl, subst, ℕ, ◌==◌, ◌&&◌, length, List, [], ◌∷◌, ◌++◌, map, drop, Option, Some, None, Bool, true, false, not, cond, find, All, IfSome, slice_get, suc, arith}
-use Rattle.std.specs.List.{list_any, list_all}
+use Rattle.std.proofs.Common.{◌≡◌, ◌∙◌, ap, sym, refl, subst, ℕ, length, List, [], ◌∷◌, ◌++◌, map, drop, Some, Bool, true, false, not, cond, find, All, IfSome, slice_get, suc, arith}
+use Rattle.std.specs.List.{list_all}
 use Rattle.std.proofs.lemmas.Bool.{both_ways, not-true, not-false, not_from_true, not_from_false, false_from_ne_true, and_parts, and_from, cond-true, ne_eqb, false≢true}
 use Rattle.std.proofs.lemmas.List.Elements.{All-nil, All-cons, All-head, All-tail, All-weaker}
 use Rattle.at_c3.specs.Merge.{is_empty, heads, next_head, stands_in_a_tail, without_head, StandsInATail, IsNextHead, IsMerge}

@@ -1,7 +1,6 @@
 -- A merge as a run of steps, each of which takes the next head.
-use Rattle.std.proofs.Common.{◌≡◌, ◌∙◌, ap, sym, refl, subst, ℕ, List, [], ◌∷◌, ◌++◌, map, Option, Some, None, Bool, true, false}
+use Rattle.std.proofs.Common.{◌≡◌, ◌∙◌, ap, sym, refl, subst, ℕ, List, [], ◌∷◌, ◌++◌, map, Option, Some, None, true, false}
 use Rattle.std.specs.List.{list_all}
-use Rattle.std.specs.Option.{option_and_then}
 use Rattle.at_c3.specs.Merge.{is_empty, next_head, without_head, prefixed, merge_of}
 use Rattle.at_c3.proofs.StepLemmas.{merge_of_empty, merge_of_next, merge_of_none}
 

@@ -17,8 +17,8 @@ fn expect_found(rt: &impl Abort, found: &Result<List, MergeFault>, wanted: Optio
     match found {
         Ok(list) => assert_eq!(rt; Some(list.as_slice()), wanted),
         Err(fault) => {
-            assert!(rt; wanted.is_none());
             assert_eq!(rt; *fault, MergeFault::NoHead);
+            assert!(rt; wanted.is_none());
         }
     }
 }

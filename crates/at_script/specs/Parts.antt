@@ -17,14 +17,14 @@ pub record Parts : Type 0 where
   pub threads : List (List Stmt)
   pub finally : Option (List Stmt)
 
--- a script of the block `main` alone, which may begin 10,000 statements
-abbrev pub script_with : List Stmt → Tables → Parts
-script_with main t = record {
-  budget = 10000;
+-- a script of the block `main` alone
+abbrev pub script_with : ℕ → List Stmt → Tables → Parts
+script_with budget main t = record {
+  budget = budget;
   names = t.names;
   classes = t.classes;
   vars = t.vars;
-  funcs = [];
+  funcs = t.funcs;
   bodies = [];
   main = main;
   threads = [];

@@ -61,20 +61,29 @@ where_last (line ∷ lines) read = None
 abbrev pub stated : Tables → List ℕ → Option (Stmt × Tables)
 stated t line = words_say (words_of line) >>= numbered t
 
--- The statements up to the line `end`, which is the last, and the texts with theirs. There are at most 10,000.
+-- the statements with one more at the end, where that makes at most 10,000
+abbrev pub with_statement : List Stmt → Stmt → Option (List Stmt)
+with_statement main statement = if nat_lt (length main) 10000 then Some (main ++ statement ∷ []) else None
+
+-- the statements with that of a line
+abbrev pub with_line : Tables → List Stmt → List ℕ → Option (List Stmt × Tables)
+with_line t main line = do
+  next ← stated t line
+  more ← with_statement main next.0
+  Some (more, next.1)
+
+-- The statements up to the line `end`, which is the last, and the texts with theirs.
 abbrev pub main_of : Tables → List Stmt → List (List ℕ) → Option (List Stmt × Tables)
 main_of t main [] = None
 main_of t main (line ∷ lines) =
-    if bytes_eq line (codes "end")
-    then where_last lines (main, t)
-    else stated t line >>= (λ next. if nat_lt (length main) 10000 then main_of next.1 (main ++ next.0 ∷ []) lines else None)
+    if bytes_eq line (codes "end") then where_last lines (main, t) else with_line t main line >>= (λ read. main_of read.1 read.0 lines)
 
 -- the script of the lines behind the line `main`
 abbrev pub script_of_lines : List (List ℕ) → Option Parts
 script_of_lines lines = do
   classes ← classes_of opening.classes lines
   read ← main_of (record opening { classes = classes }) [] lines
-  Some (script_with read.0 read.1)
+  Some (script_with 10000 read.0 read.1)
 
 -- the script that the bytes write, at most 1,048,576
 abbrev pub script_of : List ℕ → Option Parts

@@ -15,6 +15,7 @@ abbrev pub opening : Tables
 opening = record {
   classes = codes "object" ∷ [];
   names = codes "__get__" ∷ codes "__set__" ∷ codes "__delete__" ∷ codes "__getattr__" ∷ codes "__init__" ∷ [];
+  funcs = [];
   vars = [];
 }
 
@@ -28,9 +29,9 @@ class_at t word = do
 abbrev pub classes_at : Tables → List (List ℕ) → Option (List ℕ)
 classes_at t [] = Some []
 classes_at t (word ∷ words) = do
-  class ← class_at t word
-  classes ← classes_at t words
-  Some (class ∷ classes)
+  first ← class_at t word
+  rest ← classes_at t words
+  Some (first ∷ rest)
 
 -- a class without bases has the lone base `object`
 abbrev pub or_object : List ℕ → List ℕ

@@ -1,5 +1,5 @@
 //! The parts of bytes between separators.
-ghost use Rattle.std.specs.Prelude.{◌≡◌, ◌==◌, ◌∷◌};
+ghost use Rattle.std.specs.Prelude.{◌≡◌, ◌==◌, ◌∷◌, position};
 ghost use Rattle.std.specs.Option.{option_map, option_copied};
 ghost use Rattle.std.specs.Iterator.{YieldsFirstRef, item_count};
 ghost use Rattle.std.specs.List.{slice_split};
@@ -62,8 +62,15 @@ impl<'a> Iterator for Pieces<'a> {
 fn cut(bytes: &[u8], separator: u8) -> (&[u8], Option<&[u8]>)
     ensures { slice_split (λ b. b == separator) bytes.now ≡ result.0.now ∷ pieces_after separator result.1 }
 {
-    match bytes.iter().position(|b| *b == separator) {
+    match position_of(separator, bytes) {
         Some(i) => (&bytes[..i], Some(&bytes[i + 1..])),
         None => (bytes, None),
     }
+}
+
+/// The index of the first such byte.
+fn position_of(byte: u8, bytes: &[u8]) -> Option<usize>
+    ensures { result ≡ position (λ b. b == byte) bytes.now }
+{
+    bytes.iter().position(|b| *b == byte)
 }

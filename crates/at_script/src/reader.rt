@@ -2,8 +2,9 @@
 ghost use Rattle.std.specs.Prelude.{◌≡◌, [], Some, None, IfOk, IfErr, if◌then◌else◌};
 ghost use Rattle.std.specs.Option.{option_map};
 ghost use Rattle.at_script.specs.Pieces.{pieces_left};
+ghost use Rattle.at_script.specs.Shapes.{declared_by};
 ghost use Rattle.at_script.specs.Faults.{IsFaultAt};
-ghost use Rattle.at_script.specs.Script.{without_last_newline, lines_of, words_of, headed, classes_of, main_of, script_of_lines, script_of, stated};
+ghost use Rattle.at_script.specs.Script.{without_last_newline, lines_of, words_of, headed, with_declared, classes_of, with_line, main_of, script_of_lines, script_of, stated};
 
 use crate::fault::{Cause, ReadFault};
 use crate::pieces::Pieces;
@@ -99,13 +100,21 @@ fn declare_classes(
     ensures { IfOk result (λ fit. classes_of classes.old (pieces_left lines.entry) ≡ (if fit then Some classes.new else None)) }
 {
     for line in lines {
-        if let Some(class) = declared_by(Pieces::new(line, b' ')) {
-            if classes.intern(alloc, class)?.is_none() {
-                return Ok(false);
-            }
+        if !declare(alloc, classes, line)? {
+            return Ok(false);
         }
     }
     Ok(true)
+}
+
+/// Adds the class that the line declares, where it declares one. It answers `false` where that is one too many.
+fn declare(alloc: Global, classes: &mut Texts<255>, line: &[u8]) -> Result<bool, AllocError>
+    ensures { IfOk result (λ fits. with_declared classes.old (declared_by (words_of line.now)) ≡ (if fits then Some classes.new else None)) }
+{
+    match declared_by(Pieces::new(line, b' ')) {
+        Some(class) => Ok(classes.intern(alloc, class)?.is_some()),
+        None => Ok(true),
+    }
 }
 
 /// The statements up to the line `end`, which is the last.
@@ -125,12 +134,30 @@ fn read_main(
                 None
             });
         }
-        match statement_of(alloc, tables, line)? {
-            Some(statement) if main.len() < STATEMENTS_MOST => main.push(statement)?,
-            _ => return Ok(None),
+        if !add_line(alloc, tables, &mut main, line)? {
+            return Ok(None);
         }
     }
     Ok(None)
+}
+
+/// Adds the statement of a line at the end. It answers `false` where the line is none, or one too many.
+fn add_line(
+    alloc: Global,
+    tables: &mut Tables,
+    main: &mut Vec<Stmt>,
+    line: &[u8],
+) -> Result<bool, AllocError>
+    ensures { IfOk result (λ added. with_line tables.old main.old.items line.now ≡ (if added then Some (main.new.items, tables.new) else None)) }
+{
+    let Some(statement) = statement_of(alloc, tables, line)? else {
+        return Ok(false);
+    };
+    if main.len() >= STATEMENTS_MOST {
+        return Ok(false);
+    }
+    main.extend_from_slice(&[statement])?;
+    Ok(true)
 }
 
 /// The statement of a line.
@@ -138,7 +165,7 @@ fn statement_of(alloc: Global, tables: &mut Tables, line: &[u8]) -> Result<Optio
     ensures { IfOk result (λ stmt. option_map (λ s. (s, tables.new)) stmt ≡ stated tables.old line.now) }
 {
     match shape_of(Pieces::new(line, b' ')) {
-        Some(shape) => tables.statement(alloc, shape),
+        Some(shape) => tables.statement(alloc, &shape),
         None => Ok(None),
     }
 }

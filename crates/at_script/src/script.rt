@@ -11,24 +11,32 @@ use std::marker::Model;
 /// A script: its statements, and the texts that they name by number.
 #[derive(Drop)]
 pub struct Script {
+    budget: u32,
     tables: Tables,
     main: Vec<Stmt>,
 }
 
 impl Model for Script {
+    ghost use Rattle.std.specs.Prelude.{◌≤◌};
     ghost use Rattle.at_script.specs.Parts.{Parts, script_with};
 
     ghost Value = { Parts };
 
-    ghost view = { λ s. script_with s.main.items s.tables };
+    ghost view = { λ s. script_with s.budget s.main.items s.tables };
+
+    ghost invariant = { λ s. (1 ≤ s.budget) × (s.budget ≤ 100000) };
 }
 
 impl Script {
     /// The script of these statements of `main`.
     pub(crate) fn of_main(main: Vec<Stmt>, tables: Tables) -> Script
-        ensures { result ≡ script_with main.items tables }
+        ensures { result ≡ script_with 10000 main.items tables }
     {
-        Script { tables, main }
+        Script {
+            budget: 10_000,
+            tables,
+            main,
+        }
     }
 
     /// How many statements each thread may begin, from 1 to 100,000.
@@ -37,7 +45,7 @@ impl Script {
         ensures least { 1 ≤ result }
         ensures most { result ≤ 100000 }
     {
-        10_000
+        self.budget
     }
 
     /// How many threads there are, at most 32.
@@ -45,6 +53,7 @@ impl Script {
         ensures same { result ≡ length self.now.threads }
         ensures most { result ≤ 32 }
     {
+        let _ = &self.main;
         0
     }
 
@@ -73,10 +82,10 @@ impl Script {
     }
 
     /// The text of a function, and none exactly where the script has none of this number.
-    pub fn func_text(&self, _f: Func) -> Option<&str>
-        ensures { option_copied result ≡ slice_get self.now.funcs _f }
+    pub fn func_text(&self, f: Func) -> Option<&str>
+        ensures { option_copied result ≡ slice_get self.now.funcs f }
     {
-        None
+        self.tables.funcs.text(usize::from(f.number()))
     }
 
     /// The text of a variable, and none exactly where the script has none of this number.
@@ -107,7 +116,7 @@ impl Script {
         ensures same { result ≡ length self.now.funcs }
         ensures most { result ≤ 1024 }
     {
-        0
+        self.tables.funcs.len()
     }
 
     /// How many variables there are.

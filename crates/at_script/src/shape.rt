@@ -9,6 +9,7 @@ use crate::word::{attribute_name_of, identifier_of, value_of};
 use at_value::Value;
 
 /// What a line says. Identifiers and names of attributes are such; the words for classes are still to be looked up.
+#[derive(Clone, Copy)]
 pub enum Shape<'a> {
     /// `class C B..`: the class, and the words for its bases.
     Class(&'a str, Pieces<'a>),

@@ -20,6 +20,8 @@ pub struct Tables {
     pub classes: Texts<255>,
     /// The names of attributes, the five special names first.
     pub names: Texts<4096>,
+    /// The functions.
+    pub funcs: Texts<1024>,
     /// The variables.
     pub vars: Texts<1024>,
 }
@@ -32,6 +34,7 @@ impl Tables {
         let mut tables = Tables {
             classes: Texts::new(alloc),
             names: Texts::new(alloc),
+            funcs: Texts::new(alloc),
             vars: Texts::new(alloc),
         };
         tables.classes.intern(alloc, "object")?;
@@ -163,14 +166,18 @@ impl Tables {
 
     /// The statement of a line, whose variables and names are numbered from now on. It answers `None` where the line
     /// names what it may not, or one text too many.
-    pub fn statement(&mut self, alloc: Global, shape: Shape<'_>) -> Result<Option<Stmt>, AllocError>
-        ensures { IfOk result (λ stmt. option_map (λ s. (s, self.new)) stmt ≡ numbered self.old (said shape.entry)) }
+    pub fn statement(
+        &mut self,
+        alloc: Global,
+        shape: &Shape<'_>,
+    ) -> Result<Option<Stmt>, AllocError>
+        ensures { IfOk result (λ stmt. option_map (λ s. (s, self.new)) stmt ≡ numbered self.old (said shape.now)) }
     {
         match shape {
-            Shape::Class(class, bases) => Ok(self.class(class, bases)),
-            Shape::Put(class, name, value) => self.put(alloc, class, name, value),
+            Shape::Class(class, bases) => Ok(self.class(class, *bases)),
+            Shape::Put(class, name, value) => self.put(alloc, class, name, *value),
             Shape::New(variable, class) => self.new(alloc, variable, class),
-            Shape::Set(variable, name, value) => self.set(alloc, variable, name, value),
+            Shape::Set(variable, name, value) => self.set(alloc, variable, name, *value),
             Shape::Get(variable, name) => self.get(alloc, variable, name),
         }
     }

@@ -1,5 +1,6 @@
 //! What a word is: an identifier, the name of an attribute, or a value.
-ghost use Rattle.std.specs.Prelude.{◌≡◌};
+ghost use Rattle.std.specs.Prelude.{◌≡◌, IsTrue};
+ghost use Rattle.std.specs.List.{list_all};
 ghost use Rattle.std.specs.Option.{option_copied};
 ghost use Rattle.at_script.specs.Words.{begins_identifier, continues_identifier, has_identifier_form, is_reserved, is_identifier, is_attribute_name, is_class_word, identifier_of, attribute_name_of, class_word_of, value_of};
 
@@ -29,11 +30,23 @@ fn has_identifier_form(word: &[u8]) -> bool
     ensures { result ≡ has_identifier_form word.now }
 {
     match word.split_first() {
-        Some((first, rest)) => {
-            begins_identifier(*first) && rest.iter().all(|byte| continues_identifier(*byte))
-        }
+        Some((first, rest)) => begins_identifier(*first) && all_continue_identifier(rest),
         None => false,
     }
+}
+
+fn all_continue_identifier(bytes: &[u8]) -> bool
+    ensures { result ≡ list_all continues_identifier bytes.now }
+{
+    bytes.iter().all(|byte| continues_identifier(*byte))
+}
+
+/// An identifier as text.
+fn text_of(word: &[u8]) -> &str
+    requires { IsTrue (has_identifier_form word.now) }
+    ensures { result.now ≡ word.now }
+{
+    unsafe { str::from_utf8_unchecked(word) }
 }
 
 /// Whether scripts use the word for something else than a name.
@@ -74,7 +87,7 @@ pub fn identifier_of(word: &[u8]) -> Option<&str>
     ensures { option_copied result ≡ identifier_of word.now }
 {
     if is_identifier(word) {
-        str::from_utf8(word).ok()
+        Some(text_of(word))
     } else {
         None
     }
@@ -85,7 +98,7 @@ pub fn attribute_name_of(word: &[u8]) -> Option<&str>
     ensures { option_copied result ≡ attribute_name_of word.now }
 {
     if is_attribute_name(word) {
-        str::from_utf8(word).ok()
+        Some(text_of(word))
     } else {
         None
     }
@@ -96,7 +109,7 @@ pub fn class_word_of(word: &[u8]) -> Option<&str>
     ensures { option_copied result ≡ class_word_of word.now }
 {
     if is_class_word(word) {
-        str::from_utf8(word).ok()
+        Some(text_of(word))
     } else {
         None
     }

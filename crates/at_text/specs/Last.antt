@@ -7,7 +7,7 @@ use Rattle.at_value.specs.declared.value.Value.{Value}
 use Rattle.at_world.specs.declared.last.ClassEnd.{ClassEnd}
 use Rattle.at_world.specs.declared.last.ObjEnd.{ObjEnd}
 use Rattle.at_script.specs.Parts.{Parts}
-use Rattle.at_text.specs.Values.{text_at, object_text, classes_text, value_text}
+use Rattle.at_text.specs.Values.{text_at, object_text, class_item, classes_text, value_item}
 
 -- the pairs with one more, before the first whose name doesn't come before its own by bytes
 abbrev pub with_pair : Parts → ℕ × Value → List (ℕ × Value) → List (ℕ × Value)
@@ -24,7 +24,7 @@ by_bytes s (pair ∷ pairs) = with_pair s pair (by_bytes s pairs)
 
 -- a name and its value: `.x V`
 abbrev pub pair_text : Parts → ℕ × Value → List ℕ
-pair_text s pair = codes "." ++ text_at s.names pair.0 ++ codes " " ++ value_text s pair.1 ++ codes "\n"
+pair_text s pair = codes "." ++ text_at s.names pair.0 ++ value_item s pair.1 ++ codes "\n"
 
 -- the own names of a class or an object, by bytes
 abbrev pub own_text : Parts → List (ℕ × Value) → List ℕ
@@ -36,7 +36,7 @@ class_end_text s end = codes "class " ++ text_at s.classes end.class ++ codes " 
 
 -- an object: its class and its names
 abbrev pub object_end_text : Parts → ℕ → ObjEnd → List ℕ
-object_end_text s o end = codes "object " ++ object_text o ++ codes " " ++ text_at s.classes end.class ++ codes "\n" ++ own_text s end.own
+object_end_text s o end = codes "object " ++ object_text o ++ class_item s end.class ++ codes "\n" ++ own_text s end.own
 
 -- the objects, from this number on
 abbrev pub object_ends_text : Parts → ℕ → List ObjEnd → List ℕ

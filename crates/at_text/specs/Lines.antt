@@ -2,6 +2,7 @@
 use Rattle.std.specs.Prelude.{ℕ, ◌==◌, List, ◌++◌, Option, Some, None, if◌then◌else◌, codes, decimal}
 use Rattle.at_value.specs.declared.operation.Op as ops
 use Rattle.at_value.specs.declared.operation.Op.TheVariants as op
+use Rattle.at_value.specs.declared.value.Value as values
 use Rattle.at_value.specs.declared.reply.Reply as replies
 use Rattle.at_value.specs.declared.reply.Reply.TheVariants as reply
 use Rattle.at_value.specs.declared.reply.HookKind as hooks
@@ -20,18 +21,18 @@ use Rattle.at_world.specs.declared.line.Local.TheVariants as local
 use Rattle.at_world.specs.declared.line.What as whats
 use Rattle.at_world.specs.declared.line.What.TheVariants as what
 use Rattle.at_script.specs.Parts.{Parts}
-use Rattle.at_text.specs.Values.{text_at, object_text, object_attribute, class_attribute, classes_text, value_text}
+use Rattle.at_text.specs.Values.{text_at, object_text, object_attribute, class_attribute, class_item, classes_text, value_text, value_item}
 
 -- an operation of the data model, in the word of its statement; `cget` reads an attribute of a class
 abbrev pub op_text : Parts → ops.Op → List ℕ
 op_text s (op.NewClass c bases) = codes "class " ++ text_at s.classes c ++ classes_text s bases
-op_text s (op.TypeSet c x v) = codes "put " ++ class_attribute s c x ++ codes " " ++ value_text s v
+op_text s (op.TypeSet c x v) = codes "put " ++ class_attribute s c x ++ value_item s v
 op_text s (op.TypeDel c x) = codes "cut " ++ class_attribute s c x
 op_text s (op.SetBases c bases) = codes "bases " ++ text_at s.classes c ++ classes_text s bases
 op_text s (op.New c) = codes "new " ++ text_at s.classes c
-op_text s (op.Set o x v) = codes "set " ++ object_attribute s o x ++ codes " " ++ value_text s v
+op_text s (op.Set o x v) = codes "set " ++ object_attribute s o x ++ value_item s v
 op_text s (op.Del o x) = codes "del " ++ object_attribute s o x
-op_text s (op.SetClass o c) = codes "turn " ++ object_text o ++ codes " " ++ text_at s.classes c
+op_text s (op.SetClass o c) = codes "turn " ++ object_text o ++ class_item s c
 op_text s (op.Share o p) = codes "share " ++ object_text o ++ codes " " ++ object_text p
 op_text s (op.Get o x) = codes "get " ++ object_attribute s o x
 op_text s (op.TypeGet c x) = codes "cget " ++ class_attribute s c x
@@ -40,11 +41,15 @@ op_text s (op.Special o x) = codes "special " ++ object_attribute s o x
 op_text s (op.ClassOf o) = codes "classof " ++ object_text o
 op_text s (op.Mro c) = codes "mro " ++ text_at s.classes c
 
--- the operation of a line; a section over one object twice names it twice
+-- the begin of a section; one over one object twice names it twice
+abbrev pub begin_text : ℕ → Option ℕ → List ℕ
+begin_text o None = codes "begin " ++ object_text o
+begin_text o (Some p) = codes "begin " ++ object_text o ++ codes " " ++ object_text p
+
+-- the operation of a line
 abbrev pub line_op_text : Parts → line_ops.LineOp → List ℕ
 line_op_text s (line_op.Of operation) = op_text s operation
-line_op_text s (line_op.Begin o None) = codes "begin " ++ object_text o
-line_op_text s (line_op.Begin o (Some p)) = codes "begin " ++ object_text o ++ codes " " ++ object_text p
+line_op_text s (line_op.Begin o p) = begin_text o p
 line_op_text s line_op.Finish = codes "finish"
 
 abbrev pub hook_word : hooks.HookKind → List ℕ
@@ -56,15 +61,19 @@ hook_word hook.DescSet = codes "dset"
 hook_word hook.DescDel = codes "ddel"
 hook_word hook.GetAttr = codes "getattr"
 
+-- an object that was made, and what `__init__` is in its class, where it is there
+abbrev pub made_text : Parts → ℕ → Option values.Value → List ℕ
+made_text s o None = codes "made " ++ object_text o
+made_text s o (Some init) = codes "made " ++ object_text o ++ codes " init " ++ value_text s init
+
 -- a reply of the data model; the values of a hook are callee, receiver, other argument and value
 abbrev pub reply_text : Parts → replies.Reply → List ℕ
 reply_text s reply.Done = codes "done"
-reply_text s (reply.Made o None) = codes "made " ++ object_text o
-reply_text s (reply.Made o (Some init)) = codes "made " ++ object_text o ++ codes " init " ++ value_text s init
+reply_text s (reply.Made o init) = made_text s o init
 reply_text s (reply.Value v) = codes "value " ++ value_text s v
-reply_text s (reply.Method f v) = codes "method " ++ text_at s.funcs f ++ codes " " ++ value_text s v
+reply_text s (reply.Method f v) = codes "method " ++ text_at s.funcs f ++ value_item s v
 reply_text s (reply.Hook kind callee receiver other v) =
-    codes "hook " ++ hook_word kind ++ codes " " ++ value_text s callee ++ codes " " ++ value_text s receiver ++ codes " " ++ value_text s other ++ codes " " ++ value_text s v
+    codes "hook " ++ hook_word kind ++ value_item s callee ++ value_item s receiver ++ value_item s other ++ value_item s v
 reply_text s (reply.Order order) = codes "order" ++ classes_text s order
 reply_text s reply.NoAttr = codes "noattr"
 reply_text s reply.NoGetter = codes "nogetter"

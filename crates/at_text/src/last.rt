@@ -1,18 +1,22 @@
 //! Printing the final namespaces.
+ghost use Rattle.at_text.specs.Last.{pair_text};
+ghost use Rattle.at_text.specs.Prints.{Prints};
+
 use crate::order::ByBytes;
 use crate::pen::Pen;
-use crate::value::{put_class, put_classes, put_name, put_value};
+use crate::value::{put_class, put_class_item, put_classes, put_name, put_value_item};
 use at_script::Script;
 use at_source::Sink;
 use at_value::{Name, Pairs, Value};
 use at_world::{ClassEnd, Final, ObjEnd};
 
 /// Prints a name and its value, as `.x V`.
-fn put_pair<K: Sink>(out: &mut K, pen: &mut Pen, names: &Script, name: Name, value: &Value) {
+fn put_pair<K: Sink>(out: &mut K, pen: &mut Pen, names: &Script, name: Name, value: &Value)
+    ensures { Prints (K.written out.old, K.faults out.old, pen.old) (K.written out.new, K.faults out.new, pen.new) (pair_text names.now (name, value.now)) }
+{
     pen.write(out, b".");
     put_name(out, pen, names, name);
-    pen.write(out, b" ");
-    put_value(out, pen, names, value);
+    put_value_item(out, pen, names, value);
     pen.write(out, b"\n");
 }
 
@@ -51,8 +55,7 @@ fn put_object_end<K: Sink>(
 ) {
     pen.write(out, b"object #");
     pen.number(out, number as u64);
-    pen.write(out, b" ");
-    put_class(out, pen, names, end.class);
+    put_class_item(out, pen, names, end.class);
     pen.write(out, b"\n");
     put_own(out, pen, names, order, &end.own);
 }

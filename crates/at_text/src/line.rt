@@ -1,4 +1,10 @@
 //! Printing the lines of a run.
+ghost use Rattle.std.specs.Prelude.{◌++◌, codes, decimal};
+ghost use Rattle.at_text.specs.Lines.{miss_word, path_word, local_text, thread_text, what_text, line_text};
+ghost use Rattle.at_text.specs.Prints.{Prints};
+ghost use Rattle.at_text.specs.Values.{text_at};
+ghost use Rattle.at_world.specs.declared.line.What.TheVariants as whats;
+
 use crate::operation::put_line_op;
 use crate::pen::Pen;
 use crate::reply::put_line_reply;
@@ -9,7 +15,9 @@ use at_value::{Miss, Path, Place};
 use at_world::{Line, LineOp, LineReply, Local, What};
 
 /// Prints why a call didn't go the fast way.
-fn put_miss<K: Sink>(out: &mut K, pen: &mut Pen, miss: &Miss) {
+fn put_miss<K: Sink>(out: &mut K, pen: &mut Pen, miss: &Miss)
+    ensures { Prints (K.written out.old, K.faults out.old, pen.old) (K.written out.new, K.faults out.new, pen.new) (miss_word miss.now) }
+{
     match miss {
         Miss::Untagged(_) => pen.write(out, b"untagged"),
         Miss::Unlike(_) => pen.write(out, b"unlike"),
@@ -23,7 +31,9 @@ fn put_miss<K: Sink>(out: &mut K, pen: &mut Pen, miss: &Miss) {
 }
 
 /// Prints the way that a call went.
-fn put_path<K: Sink>(out: &mut K, pen: &mut Pen, path: &Path) {
+fn put_path<K: Sink>(out: &mut K, pen: &mut Pen, path: &Path)
+    ensures { Prints (K.written out.old, K.faults out.old, pen.old) (K.written out.new, K.faults out.new, pen.new) (path_word path.now) }
+{
     match path {
         Path::Fast => pen.write(out, b"fast"),
         Path::Slow(miss) => put_miss(out, pen, miss),
@@ -32,19 +42,25 @@ fn put_path<K: Sink>(out: &mut K, pen: &mut Pen, path: &Path) {
 }
 
 /// Prints a word with a blank behind it, and a number.
-fn put_word_and_number<K: Sink>(out: &mut K, pen: &mut Pen, word: &[u8], number: u64) {
+fn put_word_and_number<K: Sink>(out: &mut K, pen: &mut Pen, word: &[u8], number: u64)
+    ensures { Prints (K.written out.old, K.faults out.old, pen.old) (K.written out.new, K.faults out.new, pen.new) (word.now ++ decimal number) }
+{
     pen.write(out, word);
     pen.number(out, number);
 }
 
 /// Prints `unbound a`.
-fn put_unbound<K: Sink>(out: &mut K, pen: &mut Pen, names: &Script, var: u16) {
+fn put_unbound<K: Sink>(out: &mut K, pen: &mut Pen, names: &Script, var: u16)
+    ensures { Prints (K.written out.old, K.faults out.old, pen.old) (K.written out.new, K.faults out.new, pen.new) (codes "unbound " ++ text_at names.now.vars var) }
+{
     pen.write(out, b"unbound ");
     put_var(out, pen, names, var);
 }
 
 /// Prints what isn't an operation.
-fn put_local<K: Sink>(out: &mut K, pen: &mut Pen, names: &Script, local: &Local) {
+fn put_local<K: Sink>(out: &mut K, pen: &mut Pen, names: &Script, local: &Local)
+    ensures { Prints (K.written out.old, K.faults out.old, pen.old) (K.written out.new, K.faults out.new, pen.new) (local_text names.now local.now) }
+{
     match local {
         Local::Depth => pen.write(out, b"depth"),
         Local::Budget => pen.write(out, b"budget"),
@@ -58,7 +74,9 @@ fn put_local<K: Sink>(out: &mut K, pen: &mut Pen, names: &Script, local: &Local)
 
 /// Prints a thread: `m` is `main`, `f` is `finally`.
 #[inline]
-fn put_thread<K: Sink>(out: &mut K, pen: &mut Pen, thread: u8) {
+fn put_thread<K: Sink>(out: &mut K, pen: &mut Pen, thread: u8)
+    ensures { Prints (K.written out.old, K.faults out.old, pen.old) (K.written out.new, K.faults out.new, pen.new) (thread_text thread) }
+{
     if thread == 0 {
         pen.write(out, b"m");
     } else if thread == 33 {
@@ -77,7 +95,9 @@ fn put_did<K: Sink>(
     path: &Path,
     op: &LineOp,
     reply: &LineReply,
-) {
+)
+    ensures { Prints (K.written out.old, K.faults out.old, pen.old) (K.written out.new, K.faults out.new, pen.new) (what_text names.now (whats.Did place path.now op.now reply.now)) }
+{
     pen.number(out, place.0);
     pen.write(out, b" ");
     put_path(out, pen, path);
@@ -88,7 +108,9 @@ fn put_did<K: Sink>(
 }
 
 /// Prints what a line says.
-fn put_what<K: Sink>(out: &mut K, pen: &mut Pen, names: &Script, what: &What) {
+fn put_what<K: Sink>(out: &mut K, pen: &mut Pen, names: &Script, what: &What)
+    ensures { Prints (K.written out.old, K.faults out.old, pen.old) (K.written out.new, K.faults out.new, pen.new) (what_text names.now what.now) }
+{
     match what {
         What::Did(place, path, op, reply) => put_did(out, pen, names, *place, path, op, reply),
         What::Local(local) => {
@@ -99,7 +121,9 @@ fn put_what<K: Sink>(out: &mut K, pen: &mut Pen, names: &Script, what: &What) {
 }
 
 /// Prints a line.
-pub fn put_line<K: Sink>(out: &mut K, pen: &mut Pen, names: &Script, line: &Line) {
+pub fn put_line<K: Sink>(out: &mut K, pen: &mut Pen, names: &Script, line: &Line)
+    ensures { Prints (K.written out.old, K.faults out.old, pen.old) (K.written out.new, K.faults out.new, pen.new) (line_text names.now line.now) }
+{
     put_thread(out, pen, line.thread);
     pen.write(out, b" ");
     pen.number(out, u64::from(line.number));

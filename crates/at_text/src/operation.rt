@@ -1,7 +1,13 @@
 //! Printing operations.
+ghost use Rattle.std.specs.Prelude.{◌++◌, codes};
+ghost use Rattle.at_text.specs.Lines.{op_text, begin_text, line_op_text};
+ghost use Rattle.at_text.specs.Prints.{Prints};
+ghost use Rattle.at_text.specs.Values.{text_at, object_text, object_attribute, class_attribute, class_item, classes_text, value_item};
+
 use crate::pen::Pen;
 use crate::value::{
-    put_bases, put_class, put_class_attribute, put_object, put_object_attribute, put_value,
+    put_bases, put_class, put_class_attribute, put_class_item, put_object, put_object_attribute,
+    put_value_item,
 };
 use at_script::Script;
 use at_source::Sink;
@@ -16,7 +22,9 @@ fn put_with_bases<K: Sink>(
     word: &[u8],
     class: Class,
     bases: &Bases,
-) {
+)
+    ensures { Prints (K.written out.old, K.faults out.old, pen.old) (K.written out.new, K.faults out.new, pen.new) (word.now ++ text_at names.now.classes class ++ classes_text names.now bases.now) }
+{
     pen.write(out, word);
     put_class(out, pen, names, class);
     put_bases(out, pen, names, bases);
@@ -29,7 +37,9 @@ fn put_word_and_class<K: Sink>(
     names: &Script,
     word: &[u8],
     class: Class,
-) {
+)
+    ensures { Prints (K.written out.old, K.faults out.old, pen.old) (K.written out.new, K.faults out.new, pen.new) (word.now ++ text_at names.now.classes class) }
+{
     pen.write(out, word);
     put_class(out, pen, names, class);
 }
@@ -42,7 +52,9 @@ fn put_of_class<K: Sink>(
     word: &[u8],
     class: Class,
     name: Name,
-) {
+)
+    ensures { Prints (K.written out.old, K.faults out.old, pen.old) (K.written out.new, K.faults out.new, pen.new) (word.now ++ class_attribute names.now class name) }
+{
     pen.write(out, word);
     put_class_attribute(out, pen, names, class, name);
 }
@@ -55,7 +67,9 @@ fn put_of_object<K: Sink>(
     word: &[u8],
     object: Obj,
     name: Name,
-) {
+)
+    ensures { Prints (K.written out.old, K.faults out.old, pen.old) (K.written out.new, K.faults out.new, pen.new) (word.now ++ object_attribute names.now object name) }
+{
     pen.write(out, word);
     put_object_attribute(out, pen, names, object, name);
 }
@@ -68,10 +82,11 @@ fn put_type_set<K: Sink>(
     class: Class,
     name: Name,
     value: &Value,
-) {
+)
+    ensures { Prints (K.written out.old, K.faults out.old, pen.old) (K.written out.new, K.faults out.new, pen.new) (codes "put " ++ class_attribute names.now class name ++ value_item names.now value.now) }
+{
     put_of_class(out, pen, names, b"put ", class, name);
-    pen.write(out, b" ");
-    put_value(out, pen, names, value);
+    put_value_item(out, pen, names, value);
 }
 
 /// Prints `set #N.x V`.
@@ -82,22 +97,26 @@ fn put_set<K: Sink>(
     object: Obj,
     name: Name,
     value: &Value,
-) {
+)
+    ensures { Prints (K.written out.old, K.faults out.old, pen.old) (K.written out.new, K.faults out.new, pen.new) (codes "set " ++ object_attribute names.now object name ++ value_item names.now value.now) }
+{
     put_of_object(out, pen, names, b"set ", object, name);
-    pen.write(out, b" ");
-    put_value(out, pen, names, value);
+    put_value_item(out, pen, names, value);
 }
 
 /// Prints `turn #N C`.
-fn put_set_class<K: Sink>(out: &mut K, pen: &mut Pen, names: &Script, object: Obj, class: Class) {
+fn put_set_class<K: Sink>(out: &mut K, pen: &mut Pen, names: &Script, object: Obj, class: Class)
+    ensures { Prints (K.written out.old, K.faults out.old, pen.old) (K.written out.new, K.faults out.new, pen.new) (codes "turn " ++ object_text object ++ class_item names.now class) }
+{
     pen.write(out, b"turn ");
     put_object(out, pen, object);
-    pen.write(out, b" ");
-    put_class(out, pen, names, class);
+    put_class_item(out, pen, names, class);
 }
 
 /// Prints a word with a blank behind it, and two objects.
-fn put_two_objects<K: Sink>(out: &mut K, pen: &mut Pen, word: &[u8], first: Obj, second: Obj) {
+fn put_two_objects<K: Sink>(out: &mut K, pen: &mut Pen, word: &[u8], first: Obj, second: Obj)
+    ensures { Prints (K.written out.old, K.faults out.old, pen.old) (K.written out.new, K.faults out.new, pen.new) (word.now ++ object_text first ++ codes " " ++ object_text second) }
+{
     pen.write(out, word);
     put_object(out, pen, first);
     pen.write(out, b" ");
@@ -105,7 +124,9 @@ fn put_two_objects<K: Sink>(out: &mut K, pen: &mut Pen, word: &[u8], first: Obj,
 }
 
 /// Prints a word with a blank behind it, and an object.
-fn put_word_and_object<K: Sink>(out: &mut K, pen: &mut Pen, word: &[u8], object: Obj) {
+fn put_word_and_object<K: Sink>(out: &mut K, pen: &mut Pen, word: &[u8], object: Obj)
+    ensures { Prints (K.written out.old, K.faults out.old, pen.old) (K.written out.new, K.faults out.new, pen.new) (word.now ++ object_text object) }
+{
     pen.write(out, word);
     put_object(out, pen, object);
 }
@@ -118,14 +139,18 @@ fn put_super<K: Sink>(
     class: Class,
     object: Obj,
     name: Name,
-) {
+)
+    ensures { Prints (K.written out.old, K.faults out.old, pen.old) (K.written out.new, K.faults out.new, pen.new) (codes "super " ++ text_at names.now.classes class ++ codes " " ++ object_attribute names.now object name) }
+{
     put_word_and_class(out, pen, names, b"super ", class);
     pen.write(out, b" ");
     put_object_attribute(out, pen, names, object, name);
 }
 
 /// Prints an operation of the data model.
-pub fn put_op<K: Sink>(out: &mut K, pen: &mut Pen, names: &Script, op: &Op) {
+pub fn put_op<K: Sink>(out: &mut K, pen: &mut Pen, names: &Script, op: &Op)
+    ensures { Prints (K.written out.old, K.faults out.old, pen.old) (K.written out.new, K.faults out.new, pen.new) (op_text names.now op.now) }
+{
     match op {
         Op::Get(object, name) => put_of_object(out, pen, names, b"get ", *object, *name),
         Op::Set(object, name, value) => put_set(out, pen, names, *object, *name, value),
@@ -146,7 +171,9 @@ pub fn put_op<K: Sink>(out: &mut K, pen: &mut Pen, names: &Script, op: &Op) {
 }
 
 /// Prints the begin of a section.
-fn put_begin<K: Sink>(out: &mut K, pen: &mut Pen, first: Obj, second: Option<Obj>) {
+fn put_begin<K: Sink>(out: &mut K, pen: &mut Pen, first: Obj, second: Option<Obj>)
+    ensures { Prints (K.written out.old, K.faults out.old, pen.old) (K.written out.new, K.faults out.new, pen.new) (begin_text first second) }
+{
     match second {
         Some(second) => put_two_objects(out, pen, b"begin ", first, second),
         None => put_word_and_object(out, pen, b"begin ", first),
@@ -154,7 +181,9 @@ fn put_begin<K: Sink>(out: &mut K, pen: &mut Pen, first: Obj, second: Option<Obj
 }
 
 /// Prints the operation of a line.
-pub fn put_line_op<K: Sink>(out: &mut K, pen: &mut Pen, names: &Script, op: &LineOp) {
+pub fn put_line_op<K: Sink>(out: &mut K, pen: &mut Pen, names: &Script, op: &LineOp)
+    ensures { Prints (K.written out.old, K.faults out.old, pen.old) (K.written out.new, K.faults out.new, pen.new) (line_op_text names.now op.now) }
+{
     match op {
         LineOp::Of(op) => put_op(out, pen, names, op),
         LineOp::Begin(first, second) => put_begin(out, pen, *first, *second),

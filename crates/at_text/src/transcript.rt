@@ -1,4 +1,7 @@
 //! Printing a transcript.
+ghost use Rattle.at_text.specs.Prints.{Prints};
+ghost use Rattle.at_text.specs.Transcript.{script_text, lines_text};
+
 use crate::last::put_final;
 use crate::line::put_line;
 use crate::order::ByBytes;
@@ -40,7 +43,9 @@ impl From<Failed> for PrintFault {
 }
 
 /// Prints the header and the bytes of the script.
-fn put_script<K: Sink>(out: &mut K, pen: &mut Pen, script: &[u8]) {
+fn put_script<K: Sink>(out: &mut K, pen: &mut Pen, script: &[u8])
+    ensures { Prints (K.written out.old, K.faults out.old, pen.old) (K.written out.new, K.faults out.new, pen.new) (script_text script.now) }
+{
     pen.write(out, b"attrs transcript 1\nscript ");
     pen.number(out, script.len() as u64);
     pen.write(out, b"\n");
@@ -49,7 +54,9 @@ fn put_script<K: Sink>(out: &mut K, pen: &mut Pen, script: &[u8]) {
 }
 
 /// Prints the lines behind their number.
-fn put_lines<K: Sink>(out: &mut K, pen: &mut Pen, names: &Script, lines: &Lines) {
+fn put_lines<K: Sink>(out: &mut K, pen: &mut Pen, names: &Script, lines: &Lines)
+    ensures { Prints (K.written out.old, K.faults out.old, pen.old) (K.written out.new, K.faults out.new, pen.new) (lines_text names.now lines.now) }
+{
     pen.write(out, b"lines ");
     pen.number(out, lines.len() as u64);
     pen.write(out, b"\n");

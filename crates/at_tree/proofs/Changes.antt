@@ -106,11 +106,10 @@ module _ (tree : List (List ℕ)) (t : IsTree tree) (base c : ℕ) (base_in : ba
 
   -- what lies below c is the same with c below base
   pub added_below : ¬ Reaches tree [] c base → (d : ℕ) → Reaches (set tree base (children tree base ++ c ∷ [])) [] c d ↔ Reaches tree [] c d
-  added_below not_below d =
-      (
-          (λ r. ⊎_elim (λ old. old) (λ q. absurd (not_below q.0)) (path_added c r.0 d r.1)),
-          (λ r. path_more tree (set tree base (children tree base ++ c ∷ [])) pair_stays c r.0 d r.1)
-      )
+  added_below not_below d = (
+    (λ r. ⊎_elim (λ old. old) (λ q. absurd (not_below q.0)) (path_added c r.0 d r.1)),
+    (λ r. path_more tree (set tree base (children tree base ++ c ∷ [])) pair_stays c r.0 d r.1),
+  )
 
   -- a path below c doesn't come to base
   path_apart : Contains (children tree base) c → (a : ℕ) (path : List ℕ) (d : ℕ) → Reaches tree [] c a → IsPath tree [] a path d → Reaches (set tree base (without (children tree base) c)) [] a d
@@ -119,16 +118,15 @@ module _ (tree : List (List ℕ)) (t : IsTree tree) (base c : ℕ) (base_in : ba
       let new : List (List ℕ) = set tree base (without (children tree base) c) in
       let next : Reaches tree [] c e = reach_trans tree [] c a e r (reach_step tree [] a e e p.0 (reach_here tree [] e e refl)) in
       let kept : Contains (children new a) e =
-          children_set (without (children tree base) c) (λ list. Contains list e) a (λ at. absurd (t.acyclic base c pair (subst (Reaches tree [] c) at r))) (λ _. p.0) in
+      children_set (without (children tree base) c) (λ list. Contains list e) a (λ at. absurd (t.acyclic base c pair (subst (Reaches tree [] c) at r))) (λ _. p.0) in
       reach_step new [] a e d kept (path_apart pair e path d next p.1)
 
   -- what lies below c is the same without c below base
   pub removed_below : Contains (children tree base) c → (d : ℕ) → Reaches (set tree base (without (children tree base) c)) [] c d ↔ Reaches tree [] c d
-  removed_below pair d =
-      (
-          (λ r. path_more (set tree base (without (children tree base) c)) tree pair_kept c r.0 d r.1),
-          (λ r. path_apart pair c r.0 d (reach_here tree [] c c refl) r.1)
-      )
+  removed_below pair d = (
+    (λ r. path_more (set tree base (without (children tree base) c)) tree pair_kept c r.0 d r.1),
+    (λ r. path_apart pair c r.0 d (reach_here tree [] c c refl) r.1),
+  )
 
 -- a tree without pairs has no direct subclass
 children_empty : (n k : ℕ) → children (replicate n []) k ≡ []

@@ -56,7 +56,8 @@ impl Pairs {
 
     /// How many names there are.
     pub fn len(&self) -> usize
-        ensures { result ≡ length self.now }
+        ensures same { result ≡ length self.now }
+        ensures rising { IsRising self.now }
     {
         self.items.len()
     }

@@ -22,7 +22,8 @@ pub enum HookKind {
     GetAttr,
 }
 
-/// What an operation replies. The world has changed exactly where the reply is `Done` or `Made`.
+/// What an operation replies. It was a write exactly where the reply is `Done` or `Made`; any other reply leaves the
+/// world as it was.
 #[derive(Drop, Debug)]
 pub enum Reply {
     /// The write was done.
@@ -37,7 +38,7 @@ pub enum Reply {
     Hook(HookKind, Value, Value, Value, Value),
     /// The order of a class.
     Order(ClassList),
-    /// Nothing has the name.
+    /// Nothing has the name, or an object that the operation names isn't made.
     NoAttr,
     /// A property without a getter was read.
     NoGetter,
@@ -55,7 +56,7 @@ pub enum Reply {
     Duplicate,
     /// The class would stand above itself.
     Cycle,
-    /// The least class that would have no order.
+    /// The least of the classes, among those that would be made, that would have no order.
     NoOrder(Class),
     /// `object` can't be changed, nor have objects.
     Immutable,
@@ -69,7 +70,7 @@ pub enum Reply {
 #[derive(Clone, Copy, Debug, PartialEq, Eq, PartialOrd, Ord)]
 pub struct Place(pub u64);
 
-/// Why a call didn't go the fast way: the word that it loaded.
+/// Why a call didn't go the fast way, with the words that it loaded.
 #[derive(Clone, Copy, Debug, PartialEq, Eq)]
 pub enum Miss {
     /// The class has no tag.
@@ -93,7 +94,7 @@ pub enum Miss {
 /// Which way a call went.
 #[derive(Clone, Copy, Debug, PartialEq, Eq)]
 pub enum Path {
-    /// Without a lock, by the cache and the inline values.
+    /// By the cache, without the lock of the classes: a read takes no lock at all, a write that of its object alone.
     Fast,
     /// Under locks, after a miss.
     Slow(Miss),

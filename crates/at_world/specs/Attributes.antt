@@ -1,4 +1,6 @@
 -- The attribute operations on a world: what is found, and what it gives.
+-- After the Python language reference, "Customizing attribute access", "Special method lookup" and "Custom classes", and
+-- the built-in `super`. Where a class has no order, as in a world that isn't well formed, nothing is found in it.
 use Rattle.std.specs.Prelude.{ℕ, ◌==◌, List, [], ◌∷◌, set, Option, Some, None, if◌then◌else◌, slice_index_or, slice_get}
 use Rattle.at_value.specs.Numbers.{descriptor_get, descriptor_set, descriptor_delete, getattr}
 use Rattle.at_value.specs.Pairs.{value_at, with_value, without}

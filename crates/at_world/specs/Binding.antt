@@ -14,12 +14,13 @@ use Rattle.at_world.specs.declared.binding.Step.TheVariants as steps
 
 -- Reading
 
--- a property is read by its getter
+-- an attribute for which the class has a property is read by the getter
 abbrev pub read_property : Option ℕ → ℕ → reply.Reply
 read_property None o = replies.NoGetter
 read_property (Some f) o = replies.Hook hooks.Getter (values.Func f) (values.Obj o) values.Nothing values.Nothing
 
--- object d is read by its `__get__`, which is given the object that is read, or none, and the class; else it is itself the value
+-- an attribute for which the class has object d is read by d's `__get__`, which is given the object that is read, or
+-- none, and the class; without `__get__` it is d
 abbrev pub read_descriptor : Option value.Value → ℕ → value.Value → ℕ → reply.Reply
 read_descriptor None d instance c = replies.Value (values.Obj d)
 read_descriptor (Some g) d instance c = replies.Hook hooks.DescGet g (values.Obj d) instance (values.Class c)
@@ -38,8 +39,8 @@ abbrev pub bound_special : Option value.Value → Three → ℕ → ℕ → repl
 bound_special None three o c = replies.NoAttr
 bound_special (Some v) three o c = bound v three o c
 
--- The value of the class comes before the object's own where it is a property, or a data descriptor: an object with
--- `__get__` and with `__set__` or `__delete__`.
+-- The value of the class comes before the object's own where it is a property, or a data descriptor, which is an object
+-- with `__set__` or `__delete__`, that has `__get__`.
 abbrev pub comes_first : Option value.Value → Three → Bool
 comes_first (Some (values.Prop p)) three = true
 comes_first (Some (values.Obj d)) three = is_some three.get && (is_some three.set || is_some three.del)
@@ -76,12 +77,13 @@ bound_class (Some v) three c = bound_to_class v three c
 
 -- Writing and deleting: the value of the class replies, or leaves it to the object's own dictionary.
 
--- a property is written by its setter
+-- an attribute for which the class has a property is written by the setter
 abbrev pub write_property : Option ℕ → ℕ → value.Value → reply.Reply
 write_property None o v = replies.NoSetter
 write_property (Some f) o v = replies.Hook hooks.Setter (values.Func f) (values.Obj o) values.Nothing v
 
--- object d is written by its `__set__`; with `__delete__` alone it can't be written
+-- an attribute for which the class has object d is written by d's `__set__`; where d has `__delete__` alone it can't be
+-- written
 abbrev pub write_descriptor : Option value.Value → Option value.Value → ℕ → ℕ → value.Value → step.Step
 write_descriptor (Some s) del d o v = steps.Says (replies.Hook hooks.DescSet s (values.Obj d) (values.Obj o) v)
 write_descriptor None (Some e) d o v = steps.Says replies.NoSetter
@@ -92,12 +94,13 @@ bound_set (Some (values.Prop p)) three o v = steps.Says (write_property p.set o 
 bound_set (Some (values.Obj d)) three o v = write_descriptor three.set three.del d o v
 bound_set t three o v = steps.Own
 
--- a property is deleted by its deleter
+-- an attribute for which the class has a property is deleted by the deleter
 abbrev pub delete_property : Option ℕ → ℕ → reply.Reply
 delete_property None o = replies.NoDeleter
 delete_property (Some f) o = replies.Hook hooks.Deleter (values.Func f) (values.Obj o) values.Nothing values.Nothing
 
--- object d is deleted by its `__delete__`; with `__set__` alone it can't be deleted
+-- an attribute for which the class has object d is deleted by d's `__delete__`; where d has `__set__` alone it can't be
+-- deleted
 abbrev pub delete_descriptor : Option value.Value → Option value.Value → ℕ → ℕ → step.Step
 delete_descriptor set (Some e) d o = steps.Says (replies.Hook hooks.DescDel e (values.Obj d) (values.Obj o) values.Nothing)
 delete_descriptor (Some s) None d o = steps.Says replies.NoDeleter

@@ -8,15 +8,15 @@ use Rattle.at_world.specs.declared.rows.Object.{Object}
 use Rattle.at_world.specs.World.{World, order_of}
 use Rattle.at_world.specs.Attributes.{dict_of}
 
-abbrev pub order_or_none : Option (List ℕ) → List ℕ
-order_or_none None = []
-order_or_none (Some order) = order
+abbrev pub order_or_empty : Option (List ℕ) → List ℕ
+order_or_empty None = []
+order_or_empty (Some order) = order
 
 -- the classes that are made, from this number on: their orders and own names
 abbrev pub class_ends : World → ℕ → List (Option ClassRow) → List ClassEnd
 class_ends w c [] = []
 class_ends w c (None ∷ rows) = class_ends w (suc c) rows
-class_ends w c (Some row ∷ rows) = record { class = c; order = order_or_none (order_of w c); own = row.own } ∷ class_ends w (suc c) rows
+class_ends w c (Some row ∷ rows) = record { class = c; order = order_or_empty (order_of w c); own = row.own } ∷ class_ends w (suc c) rows
 
 -- the class and the names of an object
 abbrev pub object_end : World → Object → ObjEnd

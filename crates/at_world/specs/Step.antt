@@ -2,6 +2,8 @@
 -- The refusals are tried in this order, by each operation that can meet them: an object that isn't made (`NoAttr`), a
 -- class that isn't made (`NoClass`), `NameTaken`, `Immutable`, `EmptyBases`, `Duplicate`, `Cycle`, `NoOrder`, `Full`, and
 -- then what the attribute tables refuse. Every refusal leaves the world as it is.
+-- After the Python language reference, "Custom classes" and "Class instances", on what may be assigned to `__bases__`,
+-- `__class__` and `__dict__`.
 use Rattle.std.specs.Prelude.{ℕ, zero, suc, ◌==◌, nat_lt, nat_le, Bool, true, false, not, ◌||◌, ◌&&◌, List, [], ◌∷◌, ◌++◌, length, set, Option, Some, None, is_some, is_none, if◌then◌else◌, slice_get}
 use Rattle.std.specs.List.{list_any, list_all}
 use Rattle.at_value.specs.Numbers.{object, init}
@@ -97,6 +99,7 @@ if_ordered w changed = unless_unordered w changed (first_unordered changed)
 abbrev pub with_class : World → ℕ → List ℕ → World
 with_class w c bases = record w { classes = set w.classes c (Some (record { bases = bases; own = [] })) }
 
+-- `class c(bases)`; where c is a number past the list of classes, nothing is made
 abbrev pub new_class_effect : World → ℕ → List ℕ → Outcome
 new_class_effect w c bases =
     if is_made w c
@@ -109,14 +112,16 @@ new_class_effect w c bases =
 abbrev pub with_bases : World → ℕ → List ℕ → World
 with_bases w c bases = record w { classes = set w.classes c (Some (record { bases = bases; own = own_of (row_of w.classes c) })) }
 
--- c stands in the order of a base
+-- c stands in the order, where there is one
 abbrev pub in_order : ℕ → Option (List ℕ) → Bool
 in_order c None = false
 in_order c (Some order) = has_number c order
 
+-- c stands above itself, were these its bases: it stands in the order of one of them
 abbrev pub is_cycle : World → ℕ → List ℕ → Bool
 is_cycle w c bases = list_any (λ b. in_order c (order_of w b)) bases
 
+-- `c.__bases__ = bases`
 abbrev pub set_bases_effect : World → ℕ → List ℕ → Outcome
 set_bases_effect w c bases =
     if c == object
@@ -136,12 +141,14 @@ with_names classes c (Some row) names = set classes c (Some (record row { own = 
 abbrev pub with_own : World → ℕ → Map → World
 with_own w c names = record w { classes = with_names w.classes c (row_of w.classes c) names }
 
+-- `c.n = v`
 abbrev pub type_set_effect : World → ℕ → ℕ → value.Value → Outcome
 type_set_effect w c n v =
     if c == object
     then unchanged w replies.Immutable
     else record { reply = replies.Done; world = with_own w c (with_value n v (own_of (row_of w.classes c))) }
 
+-- `del c.n`
 abbrev pub type_del_effect : World → ℕ → ℕ → Outcome
 type_del_effect w c n =
     if c == object
@@ -160,6 +167,7 @@ most_objects = 4096
 abbrev pub with_object : World → ℕ → World
 with_object w c = record w { objects = w.objects ++ (record { class = c; dict = length w.objects }) ∷ []; dicts = w.dicts ++ [] ∷ [] }
 
+-- `c()`
 abbrev pub new_effect : World → ℕ → Outcome
 new_effect w c =
     if c == object
@@ -172,6 +180,7 @@ new_effect w c =
 abbrev pub with_object_at : World → ℕ → Object → World
 with_object_at w o now = record w { objects = set w.objects o now }
 
+-- `o.__class__ = c`, for an object that was this
 abbrev pub set_class_on : World → ℕ → ℕ → Option Object → Outcome
 set_class_on w o c None = unchanged w replies.NoAttr
 set_class_on w o c (Some was) =
@@ -179,6 +188,7 @@ set_class_on w o c (Some was) =
     then unchanged w replies.Immutable
     else record { reply = replies.Done; world = with_object_at w o (record was { class = c }) }
 
+-- `o.__dict__ = p.__dict__`, for an object that was this and one that is the other
 abbrev pub share_on : World → ℕ → Option Object → Option Object → Outcome
 share_on w o (Some was) (Some other) = record { reply = replies.Done; world = with_object_at w o (record was { dict = other.dict }) }
 share_on w o was other = unchanged w replies.NoAttr

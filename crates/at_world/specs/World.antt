@@ -49,8 +49,8 @@ order_of_row order c None = None
 order_of_row order c (Some row) = joined c row.bases (all_orders (map order row.bases))
 
 -- The order of a class by C3: the class, and then the merge of the orders of its bases and of the list of its bases. It is
--- computed from the bases alone, and is none where the class isn't made, where the merge is none, and where the chains of
--- bases are longer than the number.
+-- computed from the bases alone, and is none where the class isn't made, where the merge is none, and where a chain of
+-- bases has more classes than the number, c among them.
 abbrev pub order_within : ℕ → List (Option ClassRow) → ℕ → Option (List ℕ)
 order_within zero classes c = None
 order_within (suc n) classes c = order_of_row (order_within n classes) c (row_of classes c)
@@ -102,7 +102,7 @@ IsMade w c = IsTrue (is_some (row_of w.classes c))
 abbrev pub IsBase : World → ℕ → ℕ → Type 0
 IsBase w b c = Contains (bases_of (row_of w.classes c)) b
 
--- a stands above c by a chain of so many bases
+-- a stands above c by a chain of at most so many bases
 abbrev pub IsAboveBy : ℕ → World → ℕ → ℕ → Type 0
 IsAboveBy zero w a c = ⊥
 IsAboveBy (suc n) w a c = (b : ℕ) × IsBase w b c × ((a ≡ b) ⊎ IsAboveBy n w a b)
@@ -116,7 +116,9 @@ NamesMade w v = Unit {0}
 abbrev pub AllNameMade : World → Map → Type 0
 AllNameMade w names = All (λ (pair : ℕ × value.Value). NamesMade w pair.1) names
 
--- a world in which all that is named is there, no class has a base twice or stands above itself, and each class has an order
+-- A well-formed world: the class numbers are 0 to 254, and 0 is `object`, without bases and names; each base, class,
+-- object and dictionary that is named is there; no class has a base twice or stands above itself, and each has an order;
+-- there are at most 4,096 objects, and a dictionary for each.
 pub record IsWellFormed (w : World) : Type 0 where
   pub numbered : length w.classes ≡ 255
   pub rooted : row_of w.classes object ≡ Some (record { bases = []; own = [] })

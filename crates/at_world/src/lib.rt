@@ -4,6 +4,7 @@
 
 mod binding;
 mod last;
+pub mod laws;
 mod line;
 mod lookup;
 mod plain;

@@ -34,7 +34,7 @@ pub enum Local {
     Unbound(u16),
     /// A value that isn't a function was called.
     NotCallable,
-    /// The sequence of an object's head has come to its end.
+    /// An object's head can't be written any more: its sequence.
     Worn(u64),
     /// The history has no room behind this place.
     Full(u64),

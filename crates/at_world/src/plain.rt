@@ -5,7 +5,7 @@ ghost use Rattle.at_world.specs.World as world;
 ghost use Rattle.at_world.specs.Binding.{bound_set};
 ghost use Rattle.at_world.specs.Attributes as attributes;
 ghost use Rattle.at_world.specs.Step as steps;
-ghost use Rattle.at_world.specs.Final.{final_of, class_ends, object_end, order_or_none};
+ghost use Rattle.at_world.specs.Final.{final_of, class_ends, object_end, order_or_empty};
 ghost use Rattle.at_world.specs.Plain.{IsKnown, stepped, lists_of};
 
 use crate::binding::{Step, Three, bind_get, bind_set};
@@ -395,7 +395,7 @@ impl Plain {
     /// A class that is made, whose row this is.
     fn class_end(&self, c: Class, row: &ClassRow) -> Result<ClassEnd, AllocError>
         requires { world.row_of self.now.world.classes c ≡ Some row.now }
-        ensures { IfOk result (λ end. end ≡ record { class = c; order = order_or_none (world.order_of self.now.world c); own = row.now.own }) }
+        ensures { IfOk result (λ end. end ≡ record { class = c; order = order_or_empty (world.order_of self.now.world c); own = row.now.own }) }
     {
         let order = &self.orders[usize::from(c.number())];
         Ok(ClassEnd {

@@ -27,7 +27,7 @@ pub fn run_main(alloc: Global, script: &Script) -> Result<Ran, AllocError> {
     let mut variables = vec![in alloc; None; script.vars()]?;
     let mut lines = Vec::with_capacity(alloc, statements.len())?;
     for statement in statements {
-        let what = match demand(&variables, statement) {
+        let what = match demand_of(&variables, statement) {
             Demand::Asks(op) => did(&mut plain, &op, &mut variables, statement)?,
             Demand::Says(local) => What::Local(local),
             Demand::Silent => continue,
@@ -80,7 +80,7 @@ fn bind(variables: &mut [Option<Value>], variable: u16, reply: &Reply) {
 }
 
 /// What a statement asks for, with the variables as they stand.
-fn demand(variables: &[Option<Value>], statement: &Stmt) -> Demand {
+fn demand_of(variables: &[Option<Value>], statement: &Stmt) -> Demand {
     match statement {
         Stmt::Class(class, bases) => Demand::Asks(Op::NewClass(*class, *bases)),
         Stmt::Put(class, name, operand) => match value_of(variables, operand) {

@@ -1,10 +1,11 @@
-use Rattle.std.proofs.Common.{rules, ◌≡◌, ◌==◌, ◌∷◌, ℕ, ◌+◌, ◌-◌, ◌*◌, ◌<◌, ◌≤◌, length, ◌/◌, ◌%◌, Bool, true, false, nat_eq, nat_lt, List, [], ◌++◌, slice_index_or, slice_set, bit_and, bit_or, Fits, w8, w32, w64, Bor, MutBor}
+use Rattle.std.proofs.Common.{◌∙◌, ap, sym, ◌∷◌, ◌+◌, ◌==◌}
 use Rattle.std.specs.List.{slice_split}
-use Rattle.at_script.specs.Pieces.{pieces_after, pieces_left, one_of, two_of, both_now}
+use Rattle.std.proofs.lemmas.List.{take_rest}
+use Rattle.at_script.proofs.Cuts.{cut_at, cut_nowhere}
 use Rattle.at_script.proofs.pieces.cut.Goals as goal
 
 pub returns-in-Some : goal.returns-in-Some
-returns-in-Some c = ?
+returns-in-Some c = rw take_rest (cut_at (λ b. b == c.args.separator) c.args.bytes.now c.in-Some.i (sym c.position_of.ensures ∙ c.in-Some.is))
 
 pub returns-in-None : goal.returns-in-None
-returns-in-None c = ?
+returns-in-None c = cut_nowhere (λ b. b == c.args.separator) c.args.bytes.now (sym c.position_of.ensures ∙ c.in-None.is)

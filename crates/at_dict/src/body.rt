@@ -1,0 +1,98 @@
+//! A dictionary: a map from names to values with spare places.
+ghost use Rattle.std.specs.Prelude.{◌≡◌, ◌<◌, ◌≤◌, ◌-◌, ◌↔◌, ◌⊎◌, [], IsTrue, IsOk, IsSome, is_some, if◌then◌else◌, length, OnOk, OnErr, slice_get};
+ghost use Rattle.at_value.specs.Pairs.{IsRising, value_at, with_value, without};
+
+use at_value::{Name, Pairs, Value};
+use std::alloc::{AllocError, Global};
+use std::marker::Model;
+
+/// A map from names to values, with spare places: a new name takes one and needs no further memory. Contracts see a
+/// record of the pairs by rising name number, `map`, and of the number of spare places, `spare`.
+#[derive(Drop, Debug)]
+pub struct Body {
+    items: Vec<(Name, Value)>,
+}
+
+impl Model for Body {
+    ghost use Rattle.std.specs.Prelude.{◌-◌, vec_len, vec_capacity};
+    ghost use Rattle.at_value.specs.Pairs.{IsRising};
+    ghost use Rattle.at_dict.specs.Dictionary.{Dictionary};
+
+    ghost Value = { Dictionary };
+
+    ghost view = { λ b. record { map = b.items.items; spare = vec_capacity b.items - vec_len b.items } };
+
+    ghost invariant = { λ b. IsRising b.items.items };
+}
+
+impl Body {
+    /// A dictionary without names and without spare places. It takes no memory.
+    pub fn new(alloc: Global) -> Body
+        ensures { result ≡ record { map = []; spare = 0 } }
+    {
+        Body {
+            items: Vec::new(alloc),
+        }
+    }
+
+    /// Makes at least k spare places; those that there are stay. It fails only where there are fewer and memory is
+    /// refused, and then nothing changes.
+    pub fn reserve(&mut self, k: usize) -> Result<(), AllocError>
+        ensures map { self.new.map ≡ self.old.map }
+        ensures ok { OnOk result (k ≤ self.new.spare) }
+        ensures kept { self.old.spare ≤ self.new.spare }
+        ensures enough { k ≤ self.old.spare → IsOk result }
+        ensures err { OnErr result (self.new ≡ self.old) }
+    {
+        self.items.reserve(k)
+    }
+
+    /// How many names there are.
+    pub fn len(&self) -> usize
+        ensures { result ≡ length self.now.map }
+    {
+        self.items.len()
+    }
+
+    /// Whether there is no name.
+    pub fn is_empty(&self) -> bool
+        ensures { IsTrue result ↔ (self.now.map ≡ []) }
+    {
+        self.items.is_empty()
+    }
+
+    /// The value under the name, and none exactly where the name isn't there. The search is binary.
+    pub fn get(&self, n: Name) -> Option<Value>
+        ensures { result ≡ value_at n self.now.map }
+    {
+        Pairs::value_in(n, &self.items)
+    }
+
+    /// Puts the value under the name, in the place of what stood there. A name that isn't there takes one spare place,
+    /// a name that is there none.
+    pub fn put(&mut self, n: Name, v: Value)
+        requires { IsSome (value_at n self.old.map) ⊎ (0 < self.old.spare) }
+        ensures map { self.new.map ≡ with_value n v self.old.map }
+        ensures spare { self.new.spare ≡ (if is_some (value_at n self.old.map) then self.old.spare else self.old.spare - 1) }
+    {
+        // There is room, so this is Ok.
+        let _ = Pairs::put_in(n, v, &mut self.items);
+    }
+
+    /// Takes the name out, and gives the value that stood there. Of the number of spare places afterwards nothing is
+    /// promised.
+    pub fn cut(&mut self, n: Name) -> Option<Value>
+        ensures value { result ≡ value_at n self.old.map }
+        ensures map { self.new.map ≡ without n self.old.map }
+    {
+        Pairs::cut_in(n, &mut self.items)
+    }
+
+    /// The pair at this index by rising name number, and none exactly from the length on.
+    pub fn at(&self, i: usize) -> Option<(Name, Value)>
+        ensures pair { result ≡ slice_get self.now.map i }
+        ensures rising { IsRising self.now.map }
+    {
+        self.items.get(i).copied()
+    }
+}

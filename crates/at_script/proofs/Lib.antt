@@ -1,0 +1,4 @@
+mod Cuts
+mod Ascii
+mod Places
+mod Numerals

@@ -1,0 +1,66 @@
+-- Texts that are printed one after another.
+use Rattle.std.proofs.Common.{◌≡◌, ◌∙◌, ap, sym, refl, ℕ, ◌+◌, ◌≤◌, min, List, [], ◌∷◌, ◌++◌, take, length, get_or, ◌<◌, arith, Bool, true, false, Option, Some, None, subst, ◌⊎◌, inl, inr, unwrap_or, slice_get, append-nil, decimal}
+use Rattle.std.proofs.lemmas.List.{flat_map_more, take_more, take_all}
+use Rattle.std.specs.List.{flat_map}
+use Rattle.at_source.specs.Faults.{Rose}
+use Rattle.at_source.specs.Page.{Held, Writes}
+use Rattle.at_source.proofs.Printing.{then_writes, held_on}
+use Rattle.at_text.specs.Prints.{Point, Prints}
+use Rattle.at_text.specs.Values.{text_at}
+
+-- a rise of the count is one from below it, and to above it
+risen_cause : (a b c : Point) → a.1 ≤ b.1 → b.1 ≤ c.1 → (b.2.failed ≡ true → (a.2.failed ≡ true) ⊎ Rose a.1 b.1) → (b.2.failed ≡ true) ⊎ Rose b.1 c.1 → (a.2.failed ≡ true) ⊎ Rose a.1 c.1
+risen_cause a b c first second cause (inl failed) =
+    elim (cause failed) [ inl was ↦ inl was | inr rose ↦ inr (omega (arith, first, second, rose)) ]
+risen_cause a b c first second cause (inr rose) = inr (omega (arith, first, second, rose))
+
+-- one text, and then another, is both
+pub then_prints : {a b c : Point} {xs ys : List ℕ} → Prints a b xs → Prints b c ys → Prints a c (xs ++ ys)
+then_prints {a} {b} {c} {xs} {ys} first second = record {
+  writes = then_writes first.writes second.writes;
+  later = omega (arith, first.later, second.later);
+  cause = λ failed. risen_cause a b c first.later second.later first.cause (second.cause failed);
+}
+
+-- nothing is printed where nothing changes
+pub prints_nothing : (a : Point) → Prints a a []
+prints_nothing a = record {
+  writes = held_on a.0 a.2 a.2 [] (sym (append-nil a.2.bytes)) refl;
+  later = omega arith;
+  cause = λ failed. inl failed;
+}
+
+-- a text, and then nothing, is the text
+pub then_prints_nothing : {a b c : Point} {xs : List ℕ} → Prints a b xs → Prints b c [] → Prints a c xs
+then_prints_nothing {a} {b} {c} {xs} first second = subst (Prints a c) (append-nil xs) (then_prints first second)
+
+-- the same text in other words
+pub prints_same : {a b : Point} {xs ys : List ℕ} → xs ≡ ys → Prints a b xs → Prints a b ys
+prints_same {a} {b} same prints = subst (Prints a b) same prints
+
+-- a text that the list has, or hasn't, at this number
+pub text_at-some : (texts : List (List ℕ)) (n : ℕ) (text : List ℕ) → Some text ≡ slice_get texts n → text ≡ text_at texts n
+text_at-some texts n text there = ap (λ o. unwrap_or o []) there
+
+pub text_at-none : (texts : List (List ℕ)) (n : ℕ) → None ≡ slice_get texts n → [] ≡ text_at texts n
+text_at-none texts n none = ap (λ (o : Option (List ℕ)). unwrap_or o []) none
+
+-- the same number
+pub prints_number : {a b : Point} (m n : ℕ) → m ≡ n → Prints a b (decimal m) → Prints a b (decimal n)
+prints_number m n same prints = prints_same (ap decimal same) prints
+
+-- the texts of one more item
+pub flat_map-take_more : {X : Type 0} (f : X → List ℕ) (xs : List X) (i : ℕ) (d : X) → i < length xs → flat_map f (take i xs) ++ f (get_or xs i d) ≡ flat_map f (take (i + 1) xs)
+flat_map-take_more f xs i d within =
+    flat_map_more f [] (take i xs) (get_or xs i d) ∙ ap (flat_map f) (sym (take_more xs i d within))
+
+-- the texts of the items so far, and that of the next
+pub then_item_at : {X : Type 0} {a b c : Point} (f : X → List ℕ) (xs : List X) (i : ℕ) (d : X) → i < length xs → Prints a b (flat_map f (take i xs)) → Prints b c (f (get_or xs i d)) → Prints a c (flat_map f (take (i + 1) xs))
+then_item_at f xs i d within before next = prints_same (flat_map-take_more f xs i d within) (then_prints before next)
+
+pub then_item : {X : Type 0} {a b c : Point} (f : X → List ℕ) (xs : List X) (i : ℕ) (x : X) → i < length xs → x ≡ get_or xs i x → Prints a b (flat_map f (take i xs)) → Prints b c (f x) → Prints a c (flat_map f (take (i + 1) xs))
+then_item f xs i x within is before next = then_item_at f xs i x within before (prints_same (ap f is) next)
+
+-- the texts of all items
+pub all_items : {X : Type 0} {a b : Point} (f : X → List ℕ) (xs : List X) (i : ℕ) → length xs ≤ i → Prints a b (flat_map f (take i xs)) → Prints a b (flat_map f xs)
+all_items f xs i over prints = prints_same (ap (flat_map f) (take_all i xs over)) prints
