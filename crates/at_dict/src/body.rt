@@ -49,7 +49,8 @@ impl Body {
 
     /// How many names there are.
     pub fn len(&self) -> usize
-        ensures { result ≡ length self.now.map }
+        ensures same { result ≡ length self.now.map }
+        ensures rising { IsRising self.now.map }
     {
         self.items.len()
     }
@@ -90,8 +91,7 @@ impl Body {
 
     /// The pair at this index by rising name number, and none exactly from the length on.
     pub fn at(&self, i: usize) -> Option<(Name, Value)>
-        ensures pair { result ≡ slice_get self.now.map i }
-        ensures rising { IsRising self.now.map }
+        ensures { result ≡ slice_get self.now.map i }
     {
         self.items.get(i).copied()
     }

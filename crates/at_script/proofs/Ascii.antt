@@ -1,5 +1,5 @@
 -- Identifiers are ASCII.
-use Rattle.std.proofs.Common.{◌≡◌, ◌∙◌, ap, refl, sym, ℕ, ◌+◌, ◌<◌, ◌≤◌, List, [], ◌∷◌, length, arith, Bool, true, false, cond, not, ◌&&◌, ◌||◌, bytes_eq, codes}
+use Rattle.std.proofs.Common.{◌≡◌, ap, refl, ℕ, ◌<◌, List, [], ◌∷◌, arith, Bool, true, false, not, ◌&&◌, ◌||◌, bytes_eq, codes}
 use Rattle.std.specs.List.{list_all}
 use Rattle.std.specs.Str.{IsAscii, IsUtf8}
 use Rattle.std.proofs.lemmas.Str.{IsUtf8-from_ascii}

@@ -1,5 +1,5 @@
 -- Where a list is cut at the first element that passes a test.
-use Rattle.std.proofs.Common.{◌≡◌, ◌∙◌, ap, refl, sym, ℕ, ◌+◌, ◌<◌, ◌≤◌, List, [], ◌∷◌, length, take, drop, arith, Bool, true, false, cond, not, ltb, Option, Some, None}
+use Rattle.std.proofs.Common.{◌≡◌, ◌∙◌, ap, refl, ℕ, ◌+◌, ◌≤◌, List, [], ◌∷◌, length, take, drop, arith, Bool, true, false, cond, not, ltb, Some, None}
 use Rattle.std.specs.List.{slice_split, onto_first, position, position_or_len, prefix_len}
 use Rattle.std.proofs.lemmas.List.Splits.{slice_split_first}
 use Rattle.std.proofs.lemmas.Option.{cond_some}

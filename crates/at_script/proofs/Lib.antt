@@ -1,4 +1,5 @@
-mod Cuts
 mod Ascii
-mod Places
+mod Blocks
+mod Cuts
 mod Numerals
+mod Places

@@ -1,7 +1,7 @@
 -- Words that no number has for its decimal text.
-use Rattle.std.proofs.Common.{◌≡◌, ◌∙◌, ap, refl, sym, subst, ℕ, ◌<◌, ◌≤◌, ◌^◌, List, arith, Bool, true, false, cond, ◌&&◌, bytes_eq, ℤ, pos, negsuc, Option, Some, None, Result, Ok, Err, Bor, FitsSigned}
-use Rattle.std.specs.Prelude.{int_le, MatchResult}
-use Rattle.std.specs.Result.{result_ok, OkIff}
+use Rattle.std.proofs.Common.{◌≡◌, ◌∙◌, ap, refl, sym, subst, ℕ, ◌<◌, ◌^◌, List, arith, true, false, cond, ◌&&◌, bytes_eq, ℤ, pos, negsuc, Some, None, Result, Ok, Err, Bor}
+use Rattle.std.specs.Prelude.{MatchResult}
+use Rattle.std.specs.Result.{result_ok}
 use Rattle.std.specs.Str.{IsUtf8}
 use Rattle.std.specs.Str.Parse.{signed_digits_value, ParsesSigned}
 use Rattle.std.specs.Fmt.{signed_decimal}
@@ -26,7 +26,7 @@ none_from word not_text =
     let z = signed_digits_value 10 word in
     elim (is_in_range z && bytes_eq (signed_decimal z) word) as (λ b. (is_in_range z && bytes_eq (signed_decimal z) word) ≡ b → cond b (Some z) None ≡ None) [
       | true ↦ λ e. absurd (let k = and-true (is_in_range z) (bytes_eq (signed_decimal z) word) e in
-            not_text z (small z k.0) ((bytes_eq-Decides (signed_decimal z) word).0 k.1))
+          not_text z (small z k.0) ((bytes_eq-Decides (signed_decimal z) word).0 k.1))
       | false ↦ λ e. refl
     ] refl
 
@@ -43,8 +43,8 @@ text_is word (Err f) Q s h e = cc
 none_from_no_number : {E : Type 0} (word : List ℕ) (r : Result ℤ E) → ParsesSigned w32 10 word r → result_ok r ≡ None → number_of word ≡ None
 none_from_no_number word r parses e =
     none_from word (λ z low same.
-        let p : r ≡ Ok z = parse-signed_decimal w32 z word r (sfits_of low) (omega arith) (sym same) parses in
-        none-some z (sym e ∙ ap result_ok p))
+    let p : r ≡ Ok z = parse-signed_decimal w32 z word r (sfits_of low) (omega arith) (sym same) parses in
+    none-some z (sym e ∙ ap result_ok p))
 
 pub none_from_parse : {E F : Type 0} (word : List ℕ) (r : Result (Bor (List ℕ)) E) (Q : E → Type 0) (s : Bor (List ℕ)) (n : Result ℤ F) → MatchResult r (λ s. (s.now ≡ word) × IsUtf8 word) (λ e. ¬ (IsUtf8 word) × Q e) → result_ok r ≡ Some s → ParsesSigned w32 10 s.now n → result_ok n ≡ None → number_of word ≡ None
 none_from_parse word r Q s n read text parses e =

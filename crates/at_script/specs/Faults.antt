@@ -1,5 +1,5 @@
 -- When a script isn't read.
-use Rattle.std.specs.Prelude.{◌≡◌, ℕ, Option, None}
+use Rattle.std.specs.Prelude.{◌≡◌, Option, None}
 use Rattle.at_script.specs.declared.fault.ReadFault.{ReadFault}
 use Rattle.at_script.specs.declared.fault.ReadFault.TheVariants.{Refused, NoMemory}
 use Rattle.at_script.specs.declared.fault.Cause.TheVariants.{Script}

@@ -5,4 +5,5 @@ pub mod Shapes
 pub mod Tables
 pub mod Parts
 pub mod Script
+pub mod Reading
 pub mod Faults

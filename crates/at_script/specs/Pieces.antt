@@ -1,6 +1,5 @@
 -- The parts of bytes between separators, as `slice::split` of the standard library cuts them.
 use Rattle.std.specs.Prelude.{ℕ, ◌==◌, List, [], ◌∷◌, Option, Some, None}
-use Rattle.std.specs.Option.{option_map}
 use Rattle.std.specs.List.{slice_split}
 use Rattle.std.specs.Borrow.{Bor}
 use Rattle.at_script.specs.declared.pieces.Pieces.{Pieces}

@@ -1,4 +1,4 @@
--- Scripts, and which bytes are the text of one.
+-- Which bytes are the text of a script, and of which one.
 --
 -- A script is a list of lines. For now it has a header, the block `main` and no other:
 --
@@ -6,16 +6,14 @@
 --     main
 --     STATEMENT ..
 --     end
-use Rattle.std.specs.Prelude.{ℕ, ◌==◌, ◌-◌, nat_eq, nat_le, nat_lt, ◌&&◌, List, [], ◌∷◌, ◌++◌, length, take, Option, Some, None, if◌then◌else◌, codes, bytes_eq, slice_get}
+use Rattle.std.specs.Prelude.{ℕ, ◌==◌, ◌-◌, nat_eq, nat_le, List, [], ◌∷◌, length, take, Option, Some, None, if◌then◌else◌, codes, bytes_eq}
 use Rattle.std.specs.Option.{option_map}
-use Rattle.std.specs.List.{slice_split, ends_with}
+use Rattle.std.specs.List.{slice_split, ends_with, filter_map}
 use Rattle.at_script.specs.declared.tables.Tables.{Tables}
 use Rattle.at_script.specs.declared.stmt.Stmt.{Stmt}
-use Rattle.at_script.specs.declared.stmt.Block as blocks
-use Rattle.at_script.specs.declared.stmt.Block.TheVariants as block
 use Rattle.at_script.specs.Parts.{Parts, script_with}
-use Rattle.at_script.specs.Texts.{interned}
-use Rattle.at_script.specs.Shapes.{◌>>=◌, words_say, declared_by}
+use Rattle.at_script.specs.Texts.{all_interned}
+use Rattle.at_script.specs.Shapes.{◌>>=◌, Said, words_say, declared_by}
 use Rattle.at_script.specs.Tables.{opening, numbered}
 
 -- the bytes without a newline at their end, which begins no line; 10 is the code of a newline
@@ -40,50 +38,51 @@ abbrev pub headed : List (List ℕ) → Option (List (List ℕ))
 headed [] = None
 headed (header ∷ lines) = if bytes_eq header (codes "attrs 1") then behind_main lines else None
 
--- the classes with that of a line, where it declares one and there are at most 255
-abbrev pub with_declared : List (List ℕ) → Option (List ℕ) → Option (List (List ℕ))
-with_declared classes None = Some classes
-with_declared classes (Some class) = option_map (λ found. found.1) (interned 255 class classes)
+-- the lines before the last, which is `end`
+abbrev pub before_end : List (List ℕ) → Option (List (List ℕ))
+before_end [] = None
+before_end (line ∷ []) = if bytes_eq line (codes "end") then Some [] else None
+before_end (line ∷ next ∷ lines) = option_map (λ more. line ∷ more) (before_end (next ∷ lines))
 
--- the classes that the lines declare, each at its first declaration
-abbrev pub classes_of : List (List ℕ) → List (List ℕ) → Option (List (List ℕ))
-classes_of classes [] = Some classes
-classes_of classes (line ∷ lines) = do
-  more ← with_declared classes (declared_by (words_of line))
-  classes_of more lines
+-- what the lines say, where each says something
+abbrev pub all_say : List (List ℕ) → Option (List Said)
+all_say [] = Some []
+all_say (line ∷ lines) = do
+  first ← words_say (words_of line)
+  rest ← all_say lines
+  Some (first ∷ rest)
 
--- the block where no line is left
-abbrev pub where_last : List (List ℕ) → List Stmt × Tables → Option (List Stmt × Tables)
-where_last [] read = Some read
-where_last (line ∷ lines) read = None
+-- the classes that lines declare
+abbrev pub declared_in : List (List ℕ) → List (List ℕ)
+declared_in lines = filter_map (λ line. declared_by (words_of line)) lines
 
--- the statement of a line, and the texts with its own
-abbrev pub stated : Tables → List ℕ → Option (Stmt × Tables)
-stated t line = words_say (words_of line) >>= numbered t
+-- The texts with `object` and then the classes that the lines declare, each at its first declaration. There are at most
+-- 255.
+abbrev pub with_classes : List (List ℕ) → Option Tables
+with_classes lines = option_map (λ classes. record opening { classes = classes }) (all_interned 255 opening.classes (declared_in lines))
 
--- the statements with one more at the end, where that makes at most 10,000
-abbrev pub with_statement : List Stmt → Stmt → Option (List Stmt)
-with_statement main statement = if nat_lt (length main) 10000 then Some (main ++ statement ∷ []) else None
+-- the statements of lines in turn, and the texts with theirs
+abbrev pub all_numbered : Tables → List Said → Option (List Stmt × Tables)
+all_numbered t [] = Some ([], t)
+all_numbered t (said ∷ more) = do
+  first ← numbered t said
+  rest ← all_numbered first.1 more
+  Some (first.0 ∷ rest.0, rest.1)
 
--- the statements with that of a line
-abbrev pub with_line : Tables → List Stmt → List ℕ → Option (List Stmt × Tables)
-with_line t main line = do
-  next ← stated t line
-  more ← with_statement main next.0
-  Some (more, next.1)
+-- the statements of a block that ends with the last line, and the texts with theirs
+abbrev pub block_read : Tables → List (List ℕ) → Option (List Stmt × Tables)
+block_read t lines = (before_end lines >>= all_say) >>= all_numbered t
 
--- The statements up to the line `end`, which is the last, and the texts with theirs.
-abbrev pub main_of : Tables → List Stmt → List (List ℕ) → Option (List Stmt × Tables)
-main_of t main [] = None
-main_of t main (line ∷ lines) =
-    if bytes_eq line (codes "end") then where_last lines (main, t) else with_line t main line >>= (λ read. main_of read.1 read.0 lines)
+-- a script of at most 10,000 statements
+abbrev pub small_script : List Stmt × Tables → Option Parts
+small_script read = if nat_le (length read.0) 10000 then Some (script_with 10000 read.0 read.1) else None
 
 -- the script of the lines behind the line `main`
 abbrev pub script_of_lines : List (List ℕ) → Option Parts
 script_of_lines lines = do
-  classes ← classes_of opening.classes lines
-  read ← main_of (record opening { classes = classes }) [] lines
-  Some (script_with 10000 read.0 read.1)
+  tables ← with_classes lines
+  read ← block_read tables lines
+  small_script read
 
 -- the script that the bytes write, at most 1,048,576
 abbrev pub script_of : List ℕ → Option Parts

@@ -1,5 +1,5 @@
 -- Lists of distinct texts: a text is known by its place in the list.
-use Rattle.std.specs.Prelude.{ℕ, nat_lt, List, [], ◌∷◌, ◌++◌, length, Option, Some, None, if◌then◌else◌, bytes_eq, position}
+use Rattle.std.specs.Prelude.{ℕ, nat_lt, List, [], ◌∷◌, ◌++◌, length, Option, Some, None, if◌then◌else◌, bytes_eq, position, option_and_then}
 
 -- where the text stands
 abbrev pub place_of : List ℕ → List (List ℕ) → Option ℕ
@@ -14,3 +14,8 @@ found_or_added most text texts None =
 -- the place of the text, and the texts with it
 abbrev pub interned : ℕ → List ℕ → List (List ℕ) → Option (ℕ × List (List ℕ))
 interned most text texts = found_or_added most text texts (place_of text texts)
+
+-- the texts with all of these, each added at the end where it isn't there
+abbrev pub all_interned : ℕ → List (List ℕ) → List (List ℕ) → Option (List (List ℕ))
+all_interned most texts [] = Some texts
+all_interned most texts (text ∷ more) = option_and_then (λ found. all_interned most found.1 more) (interned most text texts)

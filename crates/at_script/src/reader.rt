@@ -4,14 +4,16 @@ ghost use Rattle.std.specs.Option.{option_map};
 ghost use Rattle.at_script.specs.Pieces.{pieces_left};
 ghost use Rattle.at_script.specs.Shapes.{declared_by};
 ghost use Rattle.at_script.specs.Faults.{IsFaultAt};
-ghost use Rattle.at_script.specs.Script.{without_last_newline, lines_of, words_of, headed, with_declared, classes_of, with_line, main_of, script_of_lines, script_of, stated};
+ghost use Rattle.at_script.specs.Script.{without_last_newline, lines_of, words_of, headed, declared_in, script_of_lines, script_of};
+ghost use Rattle.at_script.specs.Reading.{with_declared, stated, with_line, main_of};
+ghost use Rattle.at_script.specs.Texts.{all_interned};
 
 use crate::fault::{Cause, ReadFault};
 use crate::pieces::Pieces;
 use crate::script::Script;
 use crate::shape::{declared_by, shape_of};
 use crate::stmt::Stmt;
-use crate::tables::Tables;
+use crate::tables::{CLASSES_MOST, Tables};
 use crate::texts::Texts;
 use std::alloc::{AllocError, Global};
 
@@ -94,10 +96,10 @@ fn script_of_lines(alloc: Global, lines: Pieces<'_>) -> Result<Option<Script>, A
 /// Adds the classes that the lines declare. It answers `false` where there are more than there may be.
 fn declare_classes(
     alloc: Global,
-    classes: &mut Texts<255>,
+    classes: &mut Texts<CLASSES_MOST>,
     lines: Pieces<'_>,
 ) -> Result<bool, AllocError>
-    ensures { IfOk result (λ fit. classes_of classes.old (pieces_left lines.entry) ≡ (if fit then Some classes.new else None)) }
+    ensures { IfOk result (λ fit. all_interned 255 classes.old (declared_in (pieces_left lines.entry)) ≡ (if fit then Some classes.new else None)) }
 {
     for line in lines {
         if !declare(alloc, classes, line)? {
@@ -108,7 +110,11 @@ fn declare_classes(
 }
 
 /// Adds the class that the line declares, where it declares one. It answers `false` where that is one too many.
-fn declare(alloc: Global, classes: &mut Texts<255>, line: &[u8]) -> Result<bool, AllocError>
+fn declare(
+    alloc: Global,
+    classes: &mut Texts<CLASSES_MOST>,
+    line: &[u8],
+) -> Result<bool, AllocError>
     ensures { IfOk result (λ fits. with_declared classes.old (declared_by (words_of line.now)) ≡ (if fits then Some classes.new else None)) }
 {
     match declared_by(Pieces::new(line, b' ')) {

@@ -13,17 +13,29 @@ use crate::word::class_word_of;
 use at_value::{Bases, Class, Name, Value};
 use std::alloc::{AllocError, Global};
 
+/// How many classes there may be, `object` included.
+pub const CLASSES_MOST: usize = 255;
+
+/// How many attribute names and texts there may be, the five special names included.
+pub const NAMES_MOST: usize = 4096;
+
+/// How many functions there may be.
+pub const FUNCS_MOST: usize = 1024;
+
+/// How many variables there may be.
+pub const VARS_MOST: usize = 1024;
+
 /// The texts that a script numbers.
 #[derive(Drop)]
 pub struct Tables {
     /// The classes, `object` first.
-    pub classes: Texts<255>,
+    pub classes: Texts<CLASSES_MOST>,
     /// The names of attributes, the five special names first.
-    pub names: Texts<4096>,
+    pub names: Texts<NAMES_MOST>,
     /// The functions.
-    pub funcs: Texts<1024>,
+    pub funcs: Texts<FUNCS_MOST>,
     /// The variables.
-    pub vars: Texts<1024>,
+    pub vars: Texts<VARS_MOST>,
 }
 
 impl Tables {

@@ -2,6 +2,7 @@
 use crate::{Block, Cause, Operand, ReadFault, Script, Stmt, Target, read};
 use at_value::{Bases, Class, Name, Value};
 use std::alloc::Global;
+use std::mem::size_of;
 use std::test::Fail;
 
 const REFUSED: ReadFault = ReadFault::Refused {
@@ -23,6 +24,11 @@ fn accepts(alloc: Global, line: &[u8]) -> Result<bool, Fail> {
         Err(ReadFault::NoMemory) => Err("no memory".into()),
         Err(_) => Ok(false),
     }
+}
+
+#[test]
+fn statements_are_small(rt: HostRuntime) {
+    assert!(rt; size_of::<Stmt>() <= 28);
 }
 
 #[test]

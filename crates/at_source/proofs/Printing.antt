@@ -7,26 +7,6 @@ use Rattle.at_source.specs.Page.{Held, Writes, Printed}
 use Rattle.at_source.specs.Whole.{GrewByFront}
 use Rattle.at_source.proofs.Told.{append_known-append, append_known-nil}
 
--- once a write failed, bytes are let go
-pub stopped_on : (o : Option (List ℕ)) (page page' : Held) (bytes : List ℕ) → page.failed ≡ true → page'.failed ≡ true → Writes o page o page' bytes
-stopped_on o page page' bytes was is = record {
-  sent = 0;
-  within = omega arith;
-  grew = sym (append_known-nil o);
-  held = λ no. cc;
-  stopped = λ _. (refl, is);
-}
-
--- bytes that fit stand behind those before
-pub held_on : (o : Option (List ℕ)) (page page' : Held) (bytes : List ℕ) → page'.bytes ≡ page.bytes ++ bytes → page'.failed ≡ page.failed → Writes o page o page' bytes
-held_on o page page' bytes grew same = record {
-  sent = 0;
-  within = omega arith;
-  grew = sym (append_known-nil o);
-  held = λ _. grew;
-  stopped = λ was. (refl, same ∙ was);
-}
-
 -- Bytes that are sent past an empty page are written, or a front of them is and the page failed.
 pub sent_past : {T E : Type 0} (o o' : Option (List ℕ)) (page page' : Held) (bytes : List ℕ) (result : Result T E) → page.failed ≡ false → page.bytes ≡ [] → page'.bytes ≡ [] → page'.failed ≡ is_err result
     → OnOk result (o' ≡ append_known o bytes) → OnErr result (GrewByFront o o' bytes) → Writes o page o' page' bytes
@@ -54,7 +34,7 @@ pub stopped_same : {o o' : Option (List ℕ)} {page page' : Held} {bytes : List 
 stopped_same {o} {o'} {page} {page'} {bytes} writes was =
     writes.grew ∙ ap (λ n. append_known o (take n (page.bytes ++ bytes))) (writes.stopped was).0 ∙ append_known-nil o
 
--- what is left of a front's rest and more bytes is the front's rest of both
+-- what stands after a front, and then more, is what stands after that front of both
 rest_on : (n : ℕ) (all more : List ℕ) → n ≤ length all → drop n all ++ more ≡ drop n (all ++ more)
 rest_on n all more within = sym (drop-append-le n all more within)
 
@@ -102,12 +82,6 @@ writes_same {a} {b} {p} {q} writes same = subst (Writes a p b q) same writes
 -- a text, and then nothing, is the text
 pub then_nothing : {a b c : Option (List ℕ)} {p q r : Held} {xs : List ℕ} → Writes a p b q xs → Writes b q c r [] → Writes a p c r xs
 then_nothing {a} {b} {c} {p} {q} {r} {xs} first second = writes_same (then_writes first second) (append-nil xs)
-
--- what was printed on a page that then holds nothing and didn't fail is written whole
-pub printed_whole : (start written : Option (List ℕ)) (page : Held) (text : List ℕ) → Printed start written page text → page.failed ≡ false → page.bytes ≡ [] → written ≡ append_known start text
-printed_whole start written page text printed is none =
-    let over : length text ≤ printed.sent = omega (arith, ap length (sym (printed.held is) ∙ none), length-drop printed.sent text) in
-    printed.grew ∙ ap (append_known start) (take_all printed.sent text over)
 
 -- what was printed is written as far as a front
 pub printed_front : (start written : Option (List ℕ)) (page : Held) (text : List ℕ) → Printed start written page text → GrewByFront start written text

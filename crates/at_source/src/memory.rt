@@ -9,7 +9,8 @@ use crate::source::{Failed, Source};
 use std::alloc::{AllocError, Global};
 use std::marker::Model;
 
-/// The calls of a device: which fail, how many were made and how many failed.
+/// The calls of a device: the numbers of those that fail, how many were made and how many failed. A count stops at the
+/// last u64.
 #[derive(Drop)]
 struct Calls {
     fails: Vec<u64>,
@@ -161,7 +162,7 @@ impl MemSink {
         })
     }
 
-    /// What was written.
+    /// What was written so far.
     pub fn bytes(&self) -> &[u8]
         ensures { result.now ≡ self.now.written }
     {

@@ -7,7 +7,7 @@ use crate::source::Failed;
 
 /// Where bytes go.
 pub trait Sink {
-    /// What was written, where the sink tells it.
+    /// What was written, where the sink tells it. Whether it does never changes.
     ghost written: { Self → Option (List ℕ) };
 
     /// How often the sink failed.

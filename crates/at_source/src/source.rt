@@ -9,7 +9,7 @@ pub struct Failed;
 
 /// Where bytes come from.
 pub trait Source {
-    /// The bytes still to come, where the source tells them.
+    /// The bytes still to come, where the source tells them. Whether it does never changes.
     ghost left: { Self → Option (List ℕ) };
 
     /// How often the source failed.

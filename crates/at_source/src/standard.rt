@@ -9,7 +9,7 @@ use crate::source::{Failed, Source};
 use std::io::{Read, Write};
 use std::marker::Model;
 
-/// A reader of std as a source. Its faults are counted.
+/// A reader of std as a source. Each error is a fault, that of an interrupted call too.
 #[derive(Drop)]
 pub struct StdSource<I: Read> {
     faults: u64,
@@ -57,7 +57,8 @@ impl<I: Read> Source for StdSource<I> {
     }
 }
 
-/// A writer of std as a sink. Its faults are counted.
+/// A writer of std as a sink. Each error is a fault, that of an interrupted call too, and so is a write that takes
+/// nothing of a piece that isn't empty.
 #[derive(Drop)]
 pub struct StdSink<O: Write> {
     faults: u64,

@@ -2,6 +2,7 @@
 
 use super::*;
 use std::alloc::{AllocError, Global};
+use std::io::BufWriter;
 use std::test::Fail;
 
 const TEXT: &[u8] = b"one\ntwo\nthree\n";
@@ -93,24 +94,48 @@ fn a_text_is_written_as_far_as_the_sink_takes_it(rt: HostRuntime) -> Result<(), 
     Ok(())
 }
 
-#[test]
-fn a_text_longer_than_a_page_is_written_in_order(rt: HostRuntime) -> Result<(), Fail> {
-    let alloc = rt.alloc();
+/// A text that is longer than a page.
+fn long_text(alloc: Global) -> Result<Vec<u8>, AllocError> {
     let mut text = Vec::new(alloc);
     for number in 0..70_000u32 {
         text.push((number % 251) as u8)?;
     }
+    Ok(text)
+}
+
+#[test]
+fn a_text_longer_than_a_page_is_written_in_order(rt: HostRuntime) -> Result<(), Fail> {
+    let alloc = rt.alloc();
+    let text = long_text(alloc)?;
     let mut sink = MemSink::new(alloc, 140_000, 50_000, Vec::new(alloc))?;
     assert!(rt; printed(alloc, &mut sink, &text)?.is_ok());
-    assert!(rt; sink.bytes().starts_with(&text) && sink.bytes().ends_with(&text));
     assert_eq!(rt; sink.bytes().len(), 140_000);
-    assert!(rt; printed(alloc, &mut SureSink::new(), &text)?.is_ok());
-    let mut source = SureSource::new(text);
-    let bytes = read_all(alloc, &mut source, 100_000)
+    assert!(rt; sink.bytes().starts_with(&text));
+    assert!(rt; sink.bytes().ends_with(&text));
+    Ok(())
+}
+
+#[test]
+fn nothing_is_written_after_a_write_that_failed(rt: HostRuntime) -> Result<(), Fail> {
+    let alloc = rt.alloc();
+    let text = long_text(alloc)?;
+    let fails = Vec::from_slice(alloc, &[1])?;
+    let mut sink = MemSink::new(alloc, 140_000, 50_000, fails)?;
+    assert!(rt; printed(alloc, &mut sink, &text)?.is_err());
+    assert_eq!(rt; sink.bytes().len(), 50_000);
+    assert!(rt; text.starts_with(sink.bytes()));
+    Ok(())
+}
+
+#[test]
+fn sure_devices_give_and_take_all(rt: HostRuntime) -> Result<(), Fail> {
+    let alloc = rt.alloc();
+    let mut source = SureSource::new(long_text(alloc)?);
+    let text = read_all(alloc, &mut source, 100_000)
         .ok()
         .ok_or("not read")?;
-    assert!(rt; sink.bytes().starts_with(&bytes));
-    assert_eq!(rt; bytes.len(), 70_000);
+    assert_eq!(rt; text.as_slice(), long_text(alloc)?.as_slice());
+    assert!(rt; printed(alloc, &mut SureSink::new(), &text)?.is_ok());
     Ok(())
 }
 
@@ -121,9 +146,11 @@ fn std_devices_give_and_take_bytes(rt: HostRuntime) -> Result<(), Fail> {
     let bytes = read_all(alloc, &mut source, 100).ok().ok_or("not read")?;
     assert_eq!(rt; bytes.as_slice(), TEXT);
 
-    let mut written = Vec::new(alloc);
-    assert!(rt; send(&mut StdSink::new(&mut written), TEXT).is_ok());
-    assert_eq!(rt; written.as_slice(), TEXT);
+    // the buffer is empty once it is flushed
+    let mut written = BufWriter::new(alloc, Vec::new(alloc))?;
+    assert!(rt; printed(alloc, &mut StdSink::new(&mut written), b"one")?.is_ok());
+    assert!(rt; written.buffer().is_empty());
+    assert_eq!(rt; written.get_ref().as_slice(), b"oneone".as_slice());
 
     // a writer that is full takes nothing
     let mut room = [0; 5];

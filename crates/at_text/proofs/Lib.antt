@@ -1,1 +1,4 @@
+pub mod ByBytes
+pub mod Keys
 pub mod Printing
+pub mod Sorting

@@ -1,11 +1,15 @@
 -- Texts that are printed one after another.
-use Rattle.std.proofs.Common.{◌≡◌, ◌∙◌, ap, sym, refl, ℕ, ◌+◌, ◌≤◌, min, List, [], ◌∷◌, ◌++◌, take, length, get_or, ◌<◌, arith, Bool, true, false, Option, Some, None, subst, ◌⊎◌, inl, inr, unwrap_or, slice_get, append-nil, decimal}
+use Rattle.std.proofs.Common.{◌≡◌, ◌∙◌, ap, sym, refl, ℕ, zero, suc, append_assoc, ◌+◌, ◌≤◌, min, List, [], ◌∷◌, ◌++◌, take, length, get_or, ◌<◌, arith, Bool, true, false, Option, Some, None, subst, ◌⊎◌, inl, inr, unwrap_or, slice_get, append-nil, decimal}
 use Rattle.std.proofs.lemmas.List.{flat_map_more, take_more, take_all}
 use Rattle.std.specs.List.{flat_map}
 use Rattle.at_source.specs.Faults.{Rose}
-use Rattle.at_source.specs.Page.{Held, Writes}
-use Rattle.at_source.proofs.Printing.{then_writes, held_on}
+use Rattle.at_source.specs.Page.{Held, Writes, Printed, empty_page}
+use Rattle.at_source.proofs.Told.{append_known-nil}
+use Rattle.at_source.proofs.Printing.{then_writes}
 use Rattle.at_text.specs.Prints.{Point, Prints}
+use Rattle.at_world.specs.declared.last.ObjEnd.{ObjEnd}
+use Rattle.at_script.specs.Parts.{Parts}
+use Rattle.at_text.specs.Last.{object_end_text, object_ends_text}
 use Rattle.at_text.specs.Values.{text_at}
 
 -- a rise of the count is one from below it, and to above it
@@ -25,7 +29,13 @@ then_prints {a} {b} {c} {xs} {ys} first second = record {
 -- nothing is printed where nothing changes
 pub prints_nothing : (a : Point) → Prints a a []
 prints_nothing a = record {
-  writes = held_on a.0 a.2 a.2 [] (sym (append-nil a.2.bytes)) refl;
+  writes = record {
+    sent = 0;
+    within = omega arith;
+    grew = sym (append_known-nil a.0);
+    held = λ _. sym (append-nil a.2.bytes);
+    stopped = λ failed. (refl, failed);
+  };
   later = omega arith;
   cause = λ failed. inl failed;
 }
@@ -64,3 +74,30 @@ then_item f xs i x within is before next = then_item_at f xs i x within before (
 -- the texts of all items
 pub all_items : {X : Type 0} {a b : Point} (f : X → List ℕ) (xs : List X) (i : ℕ) → length xs ≤ i → Prints a b (flat_map f (take i xs)) → Prints a b (flat_map f xs)
 all_items f xs i over prints = prints_same (ap (flat_map f) (take_all i xs over)) prints
+
+-- the texts of the objects so far, and that of the next
+pub object_ends_more : (s : Parts) (o : ℕ) (ends : List ObjEnd) (i : ℕ) (d : ObjEnd) → i < length ends → object_ends_text s o (take i ends) ++ object_end_text s (o + i) (get_or ends i d) ≡ object_ends_text s o (take (i + 1) ends)
+object_ends_more s o [] i d within = absurd (omega arith)
+object_ends_more s o (end ∷ ends) zero d within =
+    let number : o + 0 ≡ o = omega arith in
+    ap (λ n. object_end_text s n end) number ∙ sym (append-nil (object_end_text s o end))
+object_ends_more s o (end ∷ ends) (suc i) d within =
+    let number : o + suc i ≡ o + 1 + i = omega arith in
+    let next : suc i + 1 ≡ suc (i + 1) = omega arith in
+    let first = object_end_text s o end in
+    ap (λ n. (first ++ object_ends_text s (o + 1) (take i ends)) ++ object_end_text s n (get_or ends i d)) number
+    ∙ append_assoc first (object_ends_text s (o + 1) (take i ends)) (object_end_text s (o + 1 + i) (get_or ends i d))
+    ∙ ap (λ l. first ++ l) (object_ends_more s (o + 1) ends i d (omega arith)) ∙ ap (λ n. object_ends_text s o (take n (end ∷ ends))) (sym next)
+
+pub then_object : {a b c : Point} (s : Parts) (ends : List ObjEnd) (i : ℕ) (end : ObjEnd) → i < length ends → end ≡ get_or ends i end → Prints a b (object_ends_text s 0 (take i ends)) → Prints b c (object_end_text s i end) → Prints a c (object_ends_text s 0 (take (i + 1) ends))
+then_object s ends i end within is before next =
+    let number : i ≡ 0 + i = omega arith in
+    prints_same (object_ends_more s 0 ends i end within)
+    (then_prints before (prints_same (ap (λ n. object_end_text s n end) number ∙ ap (object_end_text s (0 + i)) is) next))
+
+pub all_objects : {a b : Point} (s : Parts) (ends : List ObjEnd) (i : ℕ) → length ends ≤ i → Prints a b (object_ends_text s 0 (take i ends)) → Prints a b (object_ends_text s 0 ends)
+all_objects s ends i over prints = prints_same (ap (object_ends_text s 0) (take_all i ends over)) prints
+
+-- what was printed on an empty page
+pub printed_on_empty : {a b : Point} {text : List ℕ} → a.2 ≡ empty_page → Prints a b text → Printed a.0 b.0 b.2 text
+printed_on_empty {a} {b} {text} empty prints = subst (λ (page : Held). Writes a.0 page b.0 b.2 text) empty prints.writes

@@ -1,7 +1,7 @@
 -- How the final namespaces are written.
 use Rattle.std.specs.Prelude.{ℕ, ◌+◌, List, [], ◌∷◌, ◌++◌, if◌then◌else◌, codes}
 use Rattle.std.specs.List.{flat_map}
-use Rattle.std.specs.Ordering.{nat_cmp, is_le}
+use Rattle.std.specs.Ordering.{nat_cmp, is_lt}
 use Rattle.std.specs.Cmp.Lexicographic.{slice_cmp}
 use Rattle.at_value.specs.declared.value.Value.{Value}
 use Rattle.at_world.specs.declared.last.ClassEnd.{ClassEnd}
@@ -9,11 +9,11 @@ use Rattle.at_world.specs.declared.last.ObjEnd.{ObjEnd}
 use Rattle.at_script.specs.Parts.{Parts}
 use Rattle.at_text.specs.Values.{text_at, object_text, class_item, classes_text, value_item}
 
--- the pairs with one more, before the first whose name doesn't come before its own by bytes
+-- the pairs with one more, before the first whose name comes after its own by bytes
 abbrev pub with_pair : Parts → ℕ × Value → List (ℕ × Value) → List (ℕ × Value)
 with_pair s pair [] = pair ∷ []
 with_pair s pair (next ∷ rest) =
-    if is_le (slice_cmp nat_cmp (text_at s.names pair.0) (text_at s.names next.0))
+    if is_lt (slice_cmp nat_cmp (text_at s.names pair.0) (text_at s.names next.0))
     then pair ∷ next ∷ rest
     else next ∷ with_pair s pair rest
 

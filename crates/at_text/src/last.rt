@@ -1,6 +1,10 @@
 //! Printing the final namespaces.
-ghost use Rattle.at_text.specs.Last.{pair_text};
+ghost use Rattle.std.specs.Prelude.{◌≡◌};
+ghost use Rattle.std.specs.List.{flat_map};
+ghost use Rattle.at_text.specs.Last.{pair_text, own_text, class_end_text, object_end_text, object_ends_text};
+ghost use Rattle.at_text.specs.Order.{AreKeys};
 ghost use Rattle.at_text.specs.Prints.{Prints};
+ghost use Rattle.at_text.specs.Transcript.{final_text};
 
 use crate::order::ByBytes;
 use crate::pen::Pen;
@@ -8,7 +12,7 @@ use crate::value::{put_class, put_class_item, put_classes, put_name, put_value_i
 use at_script::Script;
 use at_source::Sink;
 use at_value::{Name, Pairs, Value};
-use at_world::{ClassEnd, Final, ObjEnd};
+use at_world::{ClassEnd, ClassEnds, Final, ObjEnd, ObjEnds};
 
 /// Prints a name and its value, as `.x V`.
 fn put_pair<K: Sink>(out: &mut K, pen: &mut Pen, names: &Script, name: Name, value: &Value)
@@ -21,10 +25,14 @@ fn put_pair<K: Sink>(out: &mut K, pen: &mut Pen, names: &Script, name: Name, val
 }
 
 /// Prints the names of a class or an object, by bytes.
-fn put_own<K: Sink>(out: &mut K, pen: &mut Pen, names: &Script, order: &mut ByBytes, own: &Pairs) {
+fn put_own<K: Sink>(out: &mut K, pen: &mut Pen, names: &Script, order: &mut ByBytes, own: &Pairs)
+    requires { AreKeys names.now.names order.old.keys }
+    ensures text { Prints (K.written out.old, K.faults out.old, pen.old) (K.written out.new, K.faults out.new, pen.new) (own_text names.now own.now) }
+    ensures keys { order.new.keys ≡ order.old.keys }
+{
     order.sort(own);
-    for pair in order.pairs() {
-        put_pair(out, pen, names, pair.0, &pair.1);
+    for entry in order.entries() {
+        put_pair(out, pen, names, entry.1, &entry.2);
     }
 }
 
@@ -35,7 +43,11 @@ fn put_class_end<K: Sink>(
     names: &Script,
     order: &mut ByBytes,
     end: &ClassEnd,
-) {
+)
+    requires { AreKeys names.now.names order.old.keys }
+    ensures text { Prints (K.written out.old, K.faults out.old, pen.old) (K.written out.new, K.faults out.new, pen.new) (class_end_text names.now end.now) }
+    ensures keys { order.new.keys ≡ order.old.keys }
+{
     pen.write(out, b"class ");
     put_class(out, pen, names, end.class);
     pen.write(out, b" =");
@@ -52,12 +64,50 @@ fn put_object_end<K: Sink>(
     order: &mut ByBytes,
     number: usize,
     end: &ObjEnd,
-) {
+)
+    requires { AreKeys names.now.names order.old.keys }
+    ensures text { Prints (K.written out.old, K.faults out.old, pen.old) (K.written out.new, K.faults out.new, pen.new) (object_end_text names.now number end.now) }
+    ensures keys { order.new.keys ≡ order.old.keys }
+{
     pen.write(out, b"object #");
     pen.number(out, number as u64);
     put_class_item(out, pen, names, end.class);
     pen.write(out, b"\n");
     put_own(out, pen, names, order, &end.own);
+}
+
+/// Prints the classes that were made.
+fn put_class_ends<K: Sink>(
+    out: &mut K,
+    pen: &mut Pen,
+    names: &Script,
+    order: &mut ByBytes,
+    ends: &ClassEnds,
+)
+    requires { AreKeys names.now.names order.old.keys }
+    ensures text { Prints (K.written out.old, K.faults out.old, pen.old) (K.written out.new, K.faults out.new, pen.new) (flat_map (class_end_text names.now) ends.now) }
+    ensures keys { order.new.keys ≡ order.old.keys }
+{
+    for end in ends.items() {
+        put_class_end(out, pen, names, order, end);
+    }
+}
+
+/// Prints the objects.
+fn put_object_ends<K: Sink>(
+    out: &mut K,
+    pen: &mut Pen,
+    names: &Script,
+    order: &mut ByBytes,
+    ends: &ObjEnds,
+)
+    requires { AreKeys names.now.names order.old.keys }
+    ensures text { Prints (K.written out.old, K.faults out.old, pen.old) (K.written out.new, K.faults out.new, pen.new) (object_ends_text names.now 0 ends.now) }
+    ensures keys { order.new.keys ≡ order.old.keys }
+{
+    for (number, end) in ends.items().iter().enumerate() {
+        put_object_end(out, pen, names, order, number, end);
+    }
 }
 
 /// Prints the final namespaces.
@@ -67,13 +117,12 @@ pub fn put_final<K: Sink>(
     names: &Script,
     order: &mut ByBytes,
     last: &Final,
-) {
+)
+    requires { AreKeys names.now.names order.old.keys }
+    ensures { Prints (K.written out.old, K.faults out.old, pen.old) (K.written out.new, K.faults out.new, pen.new) (final_text names.now last.now) }
+{
     pen.write(out, b"final\n");
-    for end in last.classes.items() {
-        put_class_end(out, pen, names, order, end);
-    }
-    for (number, end) in last.objects.items().iter().enumerate() {
-        put_object_end(out, pen, names, order, number, end);
-    }
+    put_class_ends(out, pen, names, order, &last.classes);
+    put_object_ends(out, pen, names, order, &last.objects);
     pen.write(out, b"end\n");
 }

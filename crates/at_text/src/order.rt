@@ -1,93 +1,165 @@
 //! The order of names by the bytes of their texts.
+ghost use Rattle.std.specs.Prelude.{◌≡◌, ◌<◌, ◌≤◌, All, IfOk, map, length, vec_capacity};
+ghost use Rattle.std.specs.List.{range_with_len};
+ghost use Rattle.std.specs.List.Sorted.{IsPermutation, IsNonDecreasingBy, IsSortedBy};
+ghost use Rattle.std.specs.Ordering.{is_lt};
+ghost use Rattle.at_value.specs.Pairs.{IsRising};
+ghost use Rattle.at_text.specs.Order.{AreGiven, AreKeys, key_at, keyed, name_cmp, pair_of};
+ghost use Rattle.at_text.specs.Values.{text_at};
+
 use at_script::Script;
 use at_value::{Name, Pairs, Value};
 use std::alloc::{AllocError, Global};
+use std::cmp::Ordering;
+use std::marker::Model;
 
 /// How many names one map has at most.
 const ROOM: usize = 4096;
 
-/// The keys that sort names as the bytes of their texts do, and room for the names of one map.
+/// Keys that sort names as the bytes of their texts do, and room for the names of one map, each behind its key.
 #[derive(Drop)]
 pub struct ByBytes {
     keys: Vec<u16>,
-    pairs: Vec<(Name, Value)>,
+    entries: Vec<(u16, Name, Value)>,
+}
+
+impl Model for ByBytes {
+    ghost use Rattle.std.specs.Prelude.{◌≡◌, vec_capacity};
+    ghost use Rattle.at_text.specs.Order.{Order};
+
+    ghost Value = { Order };
+
+    ghost view = { λ o. record { keys = o.keys.items; entries = o.entries.items } };
+
+    ghost invariant = { λ o. vec_capacity o.entries ≡ 4096 };
 }
 
 impl ByBytes {
     /// The order of the names of a script. All its memory is taken here.
-    pub fn new(alloc: Global, names: &Script) -> Result<ByBytes, AllocError> {
+    pub fn new(alloc: Global, names: &Script) -> Result<ByBytes, AllocError>
+        ensures { IfOk result (λ order. AreKeys names.now.names order.keys) }
+    {
         Ok(ByBytes {
             keys: keys_of(alloc, names)?,
-            pairs: Vec::with_capacity(alloc, ROOM)?,
+            entries: Vec::with_capacity(alloc, ROOM)?,
         })
     }
 
-    /// Takes the pairs of a map in, sorted by the bytes of their names.
-    pub fn sort(&mut self, own: &Pairs) {
-        self.pairs.clear();
-        for i in 0..own.len() {
-            if let Some(pair) = own.at(i) {
-                if self.pairs.len() < ROOM {
-                    let _ = self.pairs.push(pair);
-                }
-            }
-        }
-        let keys = &self.keys;
-        self.pairs.sort_unstable_by_key(|pair| key_of(keys, pair.0));
+    /// Takes the pairs of a map in, by rising key.
+    pub fn sort(&mut self, own: &Pairs)
+        ensures keys { self.new.keys ≡ self.old.keys }
+        ensures same { IsPermutation own.now (map pair_of self.new.entries) }
+        ensures sorted { IsNonDecreasingBy (λ pair. key_at self.old.keys pair.0) (map pair_of self.new.entries) }
+        ensures rising { IsRising own.now }
+        ensures range { All (λ pair. pair.0 < 4096) own.now }
+    {
+        take_in(own, &self.keys, &mut self.entries);
+        self.entries.sort_unstable_by_key(|entry| entry.0);
     }
 
-    /// The pairs that were taken in last.
-    pub fn pairs(&self) -> &[(Name, Value)] {
-        &self.pairs
+    /// The pairs that were taken in last, each behind its key.
+    pub fn entries(&self) -> &[(u16, Name, Value)]
+        ensures { result.now ≡ self.now.entries }
+    {
+        &self.entries
     }
 }
 
 /// The key of a name.
-fn key_of(keys: &[u16], name: Name) -> u16 {
+fn key_of(keys: &[u16], name: Name) -> u16
+    ensures key { result ≡ key_at keys.now name }
+    ensures range { name < 4096 }
+{
     let number = name.number();
     match keys.get(usize::from(number)) {
         Some(key) => *key,
-        None => number,
+        None => Name::COUNT - 1 - number,
+    }
+}
+
+/// Takes the pairs of a map in, each behind its key.
+fn take_in(own: &Pairs, keys: &[u16], entries: &mut Vec<(u16, Name, Value)>)
+    requires { vec_capacity entries.old ≡ 4096 }
+    ensures entries { entries.new.items ≡ map (keyed keys.now) own.now }
+    ensures capacity { vec_capacity entries.new ≡ vec_capacity entries.old }
+    ensures rising { IsRising own.now }
+    ensures range { All (λ pair. pair.0 < 4096) own.now }
+{
+    entries.clear();
+    for i in 0..own.len() {
+        let pair = own.at(i).unwrap();
+        let key = key_of(keys, pair.0);
+        entries.push_reserved((key, pair.0, pair.1));
     }
 }
 
 /// The bytes of a name's text, none where the script doesn't have the name.
-fn bytes_of(names: &Script, name: Name) -> &[u8] {
+fn bytes_of(names: &Script, name: Name) -> &[u8]
+    ensures { result.now ≡ text_at names.now.names name }
+{
     match names.name_text(name) {
         Some(text) => text.as_bytes(),
         None => &[],
     }
 }
 
+/// How two names come one after another: by the bytes of their texts, and by falling number where these are the same.
+fn compare(names: &Script, a: Name, b: Name) -> Ordering
+    ensures { result ≡ name_cmp names.now.names a b }
+{
+    bytes_of(names, a).cmp(bytes_of(names, b)).then(b.cmp(&a))
+}
+
+/// The name with this number.
+fn name_at(number: usize) -> Name
+    requires { number < 4096 }
+    ensures { result ≡ number }
+{
+    Name::new(number as u16).unwrap()
+}
+
 /// The names of the script, by rising number.
-fn all_names(alloc: Global, names: &Script) -> Result<Vec<Name>, AllocError> {
+fn all_names(alloc: Global, names: &Script) -> Result<Vec<Name>, AllocError>
+    ensures all { IfOk result (λ all. all.items ≡ range_with_len 0 (length names.now.names)) }
+    ensures most { length names.now.names ≤ 4096 }
+{
     let mut all = Vec::with_capacity(alloc, names.names())?;
-    for number in 0..Name::COUNT {
-        if let Some(name) = Name::new(number) {
-            if names.name_text(name).is_some() {
-                all.push(name)?;
-            }
-        }
+    for number in 0..names.names() {
+        all.push(name_at(number))?;
     }
     Ok(all)
 }
 
-/// The key of each name of the script: a name with an empty text has its number, the others have 4,096 and their rank
-/// by the bytes of their texts and then by number.
-fn keys_of(alloc: Global, names: &Script) -> Result<Vec<u16>, AllocError> {
+/// The names of the script, by their texts.
+fn sorted_names(alloc: Global, names: &Script) -> Result<Vec<Name>, AllocError>
+    ensures same { IfOk result (λ sorted. IsPermutation (range_with_len 0 (length names.now.names)) sorted.items) }
+    ensures sorted { IfOk result (λ sorted. IsSortedBy (λ a b. is_lt (name_cmp names.now.names a b)) sorted.items) }
+    ensures most { length names.now.names ≤ 4096 }
+{
     let mut sorted = all_names(alloc, names)?;
-    sorted.sort_unstable_by(|a, b| bytes_of(names, *a).cmp(bytes_of(names, *b)).then(a.cmp(b)));
+    sorted.sort_unstable_by(|a, b| compare(names, *a, *b));
+    Ok(sorted)
+}
+
+/// The keys of names that come in this order, by number: 4,096 and its place for each.
+fn keys_in(alloc: Global, sorted: &[Name]) -> Result<Vec<u16>, AllocError>
+    requires most { length sorted.now ≤ 4096 }
+    requires below { All (λ n. n < length sorted.now) sorted.now }
+    ensures { IfOk result (λ keys. (length keys.items ≡ length sorted.now) × AreGiven (length sorted.now) sorted.now keys.items) }
+{
     let mut keys = vec![in alloc; 0u16; sorted.len()]?;
-    for (rank, name) in sorted.iter().enumerate() {
-        let number = name.number();
-        let place = usize::from(number);
-        if place < keys.len() && rank < ROOM {
-            keys[place] = if bytes_of(names, *name).is_empty() {
-                number
-            } else {
-                Name::COUNT + rank as u16
-            };
-        }
+    let mut key = Name::COUNT;
+    for name in sorted {
+        keys[usize::from(name.number())] = key;
+        key += 1;
     }
     Ok(keys)
+}
+
+/// The keys of the names of the script.
+fn keys_of(alloc: Global, names: &Script) -> Result<Vec<u16>, AllocError>
+    ensures { IfOk result (λ keys. AreKeys names.now.names keys.items) }
+{
+    let sorted = sorted_names(alloc, names)?;
+    keys_in(alloc, &sorted)
 }

@@ -1,7 +1,10 @@
 //! A page before a sink, and the digits of numbers.
-ghost use Rattle.std.specs.Prelude.{◌≡◌, IfOk};
+ghost use Rattle.std.specs.Prelude.{◌≡◌, ◌≤◌, ◌⊎◌, ℕ, List, Option, true, IfOk, OnOk, OnErr};
+ghost use Rattle.std.specs.Io.KnownBytes.{append_known};
+ghost use Rattle.at_source.specs.Faults.{Rose};
+ghost use Rattle.at_source.specs.Whole.{GrewByFront};
 ghost use Rattle.std.specs.Fmt.{decimal, signed_decimal};
-ghost use Rattle.at_source.specs.Page.{empty_page};
+ghost use Rattle.at_source.specs.Page.{Printed, empty_page};
 ghost use Rattle.at_text.specs.Prints.{Prints};
 
 use at_source::{Failed, Page, Sink};
@@ -61,7 +64,13 @@ impl Pen {
     }
 
     /// Sends what the page holds back, and flushes the sink.
-    pub fn finish<K: Sink>(self, out: &mut K) -> Result<(), Failed> {
+    pub fn finish<K: Sink>(self, out: &mut K) -> Result<(), Failed>
+        // All the text that was put on the page since it was empty is written, or a front of it.
+        ensures text { OnOk result ((start : Option (List ℕ)) (text : List ℕ) → Printed start (K.written out.old) self text → K.written out.new ≡ append_known start text) }
+        ensures front { OnErr result ((start : Option (List ℕ)) (text : List ℕ) → Printed start (K.written out.old) self text → GrewByFront start (K.written out.new) text) }
+        ensures later { K.faults out.old ≤ K.faults out.new }
+        ensures cause { OnErr result ((self.failed ≡ true) ⊎ Rose (K.faults out.old) (K.faults out.new)) }
+    {
         let Pen { page, digits: _ } = self;
         page.finish(out)
     }

@@ -1,6 +1,10 @@
 //! Printing a transcript.
+ghost use Rattle.std.specs.Prelude.{◌≡◌, ◌≤◌, Err, OnOk};
+ghost use Rattle.std.specs.Io.KnownBytes.{append_known};
+ghost use Rattle.at_source.specs.Faults.{Rose};
+ghost use Rattle.at_source.specs.Whole.{GrewByFront};
 ghost use Rattle.at_text.specs.Prints.{Prints};
-ghost use Rattle.at_text.specs.Transcript.{script_text, lines_text};
+ghost use Rattle.at_text.specs.Transcript.{script_text, lines_text, text};
 
 use crate::last::put_final;
 use crate::line::put_line;
@@ -75,7 +79,18 @@ pub fn print<K: Sink>(
     names: &Script,
     run: &Ran,
     out: &mut K,
-) -> Result<(), PrintFault> {
+) -> Result<(), PrintFault>
+    // The transcript was written, or only a front of it.
+    ensures text { OnOk result (K.written out.new ≡ append_known (K.written out.old) (text script.now names.now run.now.lines run.now.last)) }
+    ensures front { result ≡ Err PrintFault.WriteFault → GrewByFront (K.written out.old) (K.written out.new) (text script.now names.now run.now.lines run.now.last) }
+
+    // The write fault comes only where the count of faults rose, and the count never falls.
+    ensures later { K.faults out.old ≤ K.faults out.new }
+    ensures cause { result ≡ Err PrintFault.WriteFault → Rose (K.faults out.old) (K.faults out.new) }
+
+    // Where memory was wanting, nothing was written.
+    ensures no_memory { result ≡ Err PrintFault.NoMemory → (K.written out.new ≡ K.written out.old) × (K.faults out.new ≡ K.faults out.old) }
+{
     let mut pen = Pen::new(alloc)?;
     let mut order = ByBytes::new(alloc, names)?;
     put_script(out, &mut pen, script);

@@ -1,26 +1,27 @@
 //! The commands of the program.
+ghost use Rattle.std.specs.Prelude.{◌≡◌, ◌≤◌, ◌↔◌, ◌∷◌, [], ◌⊎◌, ℕ, List, Option, Some, IsTrue, map, codes, string_bytes};
+ghost use Rattle.std.specs.Io.KnownBytes.{append_known};
+ghost use Rattle.at_source.specs.Faults.{Rose};
+ghost use Rattle.at_source.specs.Whole.{GaveFirst, GrewByFront};
+ghost use Rattle.at_script.specs.Script.{script_of};
+ghost use Rattle.attrs.specs.Answers.{Ends, IsAnswer, IsTextAnswer, IsUsageAnswer, refusal_text};
 
 use crate::gate::Gate;
 use crate::plain_run::run_main;
 use crate::status::Status;
+use crate::telling::{refusal, tell};
 use at_script::{Cause, ReadFault, Script};
-use at_source::{Failed, ReadAllFault, Sink, Source, read_all, send};
+use at_source::{ReadAllFault, Sink, Source, read_all};
 use at_text::{PrintFault, print};
 use std::alloc::Global;
-use std::thread::Threads;
 use std::sync::Wait;
+use std::thread::Threads;
 
 /// How many bytes are too many for a script, which has at most 1,048,576.
 const TOO_MANY: usize = 1_048_577;
 
-/// What is written for words that are no command.
-const USAGE: &str = "usage: attrs run or plain or make SEED COUNT\n";
-
-/// What is written for an input that is too long for a script.
-const TOO_LONG: &str = "refused 0 long\n";
-
-/// Does what the words say: `run` reads a script to its end, runs it and writes its transcript. Any other words are
-/// no command, and the usage line is written.
+/// Does what the words say. `run` reads a script to the end of the source, runs it, and writes its transcript. Any
+/// other words are no command: nothing is read, and the usage line is written.
 pub fn attrs<R: Wait + Threads + Sync, S: Source, K: Sink, G: Gate + Sync>(
     _rt: &R,
     alloc: Global,
@@ -28,31 +29,93 @@ pub fn attrs<R: Wait + Threads + Sync, S: Source, K: Sink, G: Gate + Sync>(
     src: &mut S,
     out: &mut K,
     _gate: &G,
-) -> Status {
-    match words {
-        [word] if word.as_str() == "run" => plain_text(alloc, src, out),
-        _ => told(out, USAGE, Status::Usage),
+) -> Status
+    ensures run { map string_bytes words.now ≡ codes "run" ∷ [] →
+        IsAnswer (record { left = S.left src.old; written = K.written out.old; read_faults = S.faults src.old; write_faults = K.faults out.old })
+            (record { left = S.left src.new; written = K.written out.new; read_faults = S.faults src.new; write_faults = K.faults out.new }) result }
+    ensures usage { ¬ (map string_bytes words.now ≡ codes "run" ∷ []) →
+        IsUsageAnswer (record { left = S.left src.old; written = K.written out.old; read_faults = S.faults src.old; write_faults = K.faults out.old })
+            (record { left = S.left src.new; written = K.written out.new; read_faults = S.faults src.new; write_faults = K.faults out.new }) result }
+    ensures later { (S.faults src.old ≤ S.faults src.new) × (K.faults out.old ≤ K.faults out.new) }
+{
+    if is_run(words) {
+        plain_text(alloc, src, out)
+    } else {
+        usage(out)
+    }
+}
+
+/// Whether the words are `run` alone.
+fn is_run(words: &[String]) -> bool
+    ensures { IsTrue result ↔ (map string_bytes words.now ≡ codes "run" ∷ []) }
+{
+    words.len() == 1 && words[0].as_str() == "run"
+}
+
+/// Writes the usage line.
+fn usage<K: Sink>(out: &mut K) -> Status
+    ensures answer { (left : Option (List ℕ)) (faults : ℕ) →
+        IsUsageAnswer (record { left = left; written = K.written out.old; read_faults = faults; write_faults = K.faults out.old })
+            (record { left = left; written = K.written out.new; read_faults = faults; write_faults = K.faults out.new }) result }
+    ensures later { K.faults out.old ≤ K.faults out.new }
+{
+    match tell(out, b"usage: attrs run or plain or make SEED COUNT\n") {
+        Ok(()) => Status::Usage,
+        Err(_) => Status::WriteFault,
     }
 }
 
 /// Reads a script to the end of the source, runs its block `main` on the plain data model, and writes the transcript.
-/// It waits for nobody.
-pub fn plain_text<S: Source, K: Sink>(alloc: Global, src: &mut S, out: &mut K) -> Status {
-    let bytes = match read_all(alloc, src, TOO_MANY) {
-        Ok(bytes) => bytes,
-        Err(ReadAllFault::Failed) => return Status::ReadFault,
-        Err(ReadAllFault::TooLong) => return told(out, TOO_LONG, Status::TooLong),
-        Err(ReadAllFault::NoMemory) => return Status::NoMemory,
-    };
-    match at_script::read(alloc, &bytes) {
-        Ok(script) => run_and_print(alloc, &bytes, &script, out),
-        Err(ReadFault::Refused { line, cause }) => refused(out, line, cause),
+/// It waits for nobody. Bytes that are no script, and more bytes than a script may have, are refused by a line on the
+/// sink. A fault is answered only where the source or the sink failed in this call.
+pub fn plain_text<S: Source, K: Sink>(alloc: Global, src: &mut S, out: &mut K) -> Status
+    ensures answer { IsAnswer (record { left = S.left src.old; written = K.written out.old; read_faults = S.faults src.old; write_faults = K.faults out.old })
+        (record { left = S.left src.new; written = K.written out.new; read_faults = S.faults src.new; write_faults = K.faults out.new }) result }
+    ensures later { (S.faults src.old ≤ S.faults src.new) × (K.faults out.old ≤ K.faults out.new) }
+{
+    match read_all(alloc, src, TOO_MANY) {
+        Ok(bytes) => answer(alloc, &bytes, out),
+        Err(ReadAllFault::Failed) => Status::ReadFault,
+        Err(ReadAllFault::TooLong) => too_long(out),
+        Err(ReadAllFault::NoMemory) => Status::NoMemory,
+    }
+}
+
+/// Writes that the input is too long for a script.
+fn too_long<K: Sink>(out: &mut K) -> Status
+    ensures answer { (before now : Option (List ℕ)) (faults risen : ℕ) → GaveFirst 1048577 before now →
+        IsAnswer (record { left = before; written = K.written out.old; read_faults = faults; write_faults = K.faults out.old })
+            (record { left = now; written = K.written out.new; read_faults = risen; write_faults = K.faults out.new }) result }
+    ensures later { K.faults out.old ≤ K.faults out.new }
+{
+    match tell(out, b"refused 0 long\n") {
+        Ok(()) => Status::TooLong,
+        Err(_) => Status::WriteFault,
+    }
+}
+
+/// Writes the transcript of the script of these bytes, or that they are no script.
+fn answer<K: Sink>(alloc: Global, bytes: &[u8], out: &mut K) -> Status
+    ensures answer { (left now : Option (List ℕ)) (faults risen : ℕ) →
+        IsTextAnswer bytes.now (record { left = left; written = K.written out.old; read_faults = faults; write_faults = K.faults out.old })
+            (record { left = now; written = K.written out.new; read_faults = risen; write_faults = K.faults out.new }) result }
+    ensures later { K.faults out.old ≤ K.faults out.new }
+{
+    match at_script::read(alloc, bytes) {
+        Ok(script) => transcribe(alloc, bytes, &script, out),
+        Err(ReadFault::Refused { line, cause }) => refuse(alloc, line, cause, out),
         Err(ReadFault::NoMemory) => Status::NoMemory,
     }
 }
 
-/// Runs the script of the bytes, and writes the transcript.
-fn run_and_print<K: Sink>(alloc: Global, bytes: &[u8], script: &Script, out: &mut K) -> Status {
+/// Runs the script of these bytes, and writes the transcript.
+fn transcribe<K: Sink>(alloc: Global, bytes: &[u8], script: &Script, out: &mut K) -> Status
+    requires { script_of bytes.now ≡ Some script.now }
+    ensures answer { (left now : Option (List ℕ)) (faults risen : ℕ) →
+        IsTextAnswer bytes.now (record { left = left; written = K.written out.old; read_faults = faults; write_faults = K.faults out.old })
+            (record { left = now; written = K.written out.new; read_faults = risen; write_faults = K.faults out.new }) result }
+    ensures later { K.faults out.old ≤ K.faults out.new }
+{
     let Ok(ran) = run_main(alloc, script) else {
         return Status::NoMemory;
     };
@@ -63,47 +126,19 @@ fn run_and_print<K: Sink>(alloc: Global, bytes: &[u8], script: &Script, out: &mu
     }
 }
 
-/// Writes a text, and answers the status, or that the sink failed.
-fn told<K: Sink>(out: &mut K, text: &str, status: Status) -> Status {
-    match send(out, text.as_bytes()).and_then(|()| out.flush()) {
-        Ok(()) => status,
-        Err(Failed) => Status::WriteFault,
-    }
-}
-
 /// Writes why the bytes are no script.
-fn refused<K: Sink>(out: &mut K, line: u32, cause: Cause) -> Status {
-    match write_refusal(out, line, cause) {
+fn refuse<K: Sink>(alloc: Global, line: u32, cause: Cause, out: &mut K) -> Status
+    ensures refused { result ≡ Status.Refused line cause → K.written out.new ≡ append_known (K.written out.old) (refusal_text line cause) }
+    ensures fault { result ≡ Status.WriteFault → Rose (K.faults out.old) (K.faults out.new) × GrewByFront (K.written out.old) (K.written out.new) (refusal_text line cause) }
+    ensures no_memory { result ≡ Status.NoMemory → K.written out.new ≡ K.written out.old }
+    ensures answers { (result ≡ Status.Refused line cause) ⊎ (result ≡ Status.WriteFault) ⊎ (result ≡ Status.NoMemory) }
+    ensures later { K.faults out.old ≤ K.faults out.new }
+{
+    let Ok(text) = refusal(alloc, line, cause) else {
+        return Status::NoMemory;
+    };
+    match tell(out, &text) {
         Ok(()) => Status::Refused(line, cause),
-        Err(Failed) => Status::WriteFault,
-    }
-}
-
-/// Writes the line and the cause of a refusal.
-fn write_refusal<K: Sink>(out: &mut K, line: u32, cause: Cause) -> Result<(), Failed> {
-    let mut number = itoa::Buffer::new();
-    send(out, b"refused ")?;
-    send(out, number.format(line).as_bytes())?;
-    send(out, b" ")?;
-    send(out, cause_word(cause).as_bytes())?;
-    send(out, b"\n")?;
-    out.flush()
-}
-
-/// The word of a cause.
-fn cause_word(cause: Cause) -> &'static str {
-    match cause {
-        Cause::Byte => "byte",
-        Cause::Header => "header",
-        Cause::Word => "word",
-        Cause::Place => "place",
-        Cause::Form => "form",
-        Cause::Number => "number",
-        Cause::Name => "name",
-        Cause::Class => "class",
-        Cause::Func => "func",
-        Cause::Limit => "limit",
-        Cause::End => "end",
-        Cause::Script => "script",
+        Err(_) => Status::WriteFault,
     }
 }

@@ -5,8 +5,7 @@ mod command;
 mod gate;
 mod plain_run;
 mod status;
-#[cfg(test)]
-mod tests;
+mod telling;
 
 use at_source::{StdSink, StdSource};
 use command::attrs;

@@ -1,5 +1,4 @@
-use Rattle.std.proofs.Common.{◌∙◌, ap, sym, ◌∷◌, ◌+◌, ◌==◌}
-use Rattle.std.specs.List.{slice_split}
+use Rattle.std.proofs.Common.{◌∙◌, sym, ◌==◌}
 use Rattle.std.proofs.lemmas.List.{take_rest}
 use Rattle.at_script.proofs.Cuts.{cut_at, cut_nowhere}
 use Rattle.at_script.proofs.pieces.cut.Goals as goal

@@ -1,10 +1,11 @@
 use Rattle.std.proofs.Common.{◌≡◌}
 use Rattle.at_script.specs.Pieces.{pieces_left}
-use Rattle.at_script.specs.Script.{classes_of}
+use Rattle.at_script.specs.Texts.{all_interned}
+use Rattle.at_script.specs.Script.{declared_in}
 use Rattle.at_script.proofs.reader.declare_classes.Given as goal
 
 -- what is left gives the answer
 abbrev pub invariant-loop-line : goal.invariant-loop-line
 invariant-loop-line l =
     (goal.iterator-loop-line).can_next l.line-iterator × (goal.iterator-loop-line).is_finite l.line-iterator
-    × (classes_of l.classes (pieces_left l.line-iterator) ≡ classes_of l.initial.classes (pieces_left l.fn.lines))
+    × (all_interned 255 l.classes (declared_in (pieces_left l.line-iterator)) ≡ all_interned 255 l.initial.classes (declared_in (pieces_left l.fn.lines)))

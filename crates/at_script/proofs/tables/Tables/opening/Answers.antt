@@ -1,4 +1,4 @@
-use Rattle.std.proofs.Common.{refl, ap, ◌∙◌, ◌≡◌, List, ℕ, [], ◌∷◌, codes}
+use Rattle.std.proofs.Common.{refl, ap, ◌∙◌, List, ℕ, [], ◌∷◌, codes}
 use Rattle.at_script.specs.declared.tables.Tables.{Tables}
 use Rattle.at_script.proofs.Places.{left_by}
 use Rattle.at_script.proofs.tables.Tables.opening.Goals as goal

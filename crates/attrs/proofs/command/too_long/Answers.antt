@@ -1,0 +1,5 @@
+use Rattle.std.proofs.Common.{inr}
+use Rattle.attrs.proofs.command.too_long.Goals as goal
+
+pub returns-in-Err-clause-answer : goal.returns-in-Err-clause-answer
+returns-in-Err-clause-answer g c = λ before now faults risen gave. inr (gave, (c.in-Err.ensures.cause, c.in-Err.ensures.part))

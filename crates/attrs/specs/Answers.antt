@@ -1,0 +1,104 @@
+-- How each answer of a call comes about, and what is written with it.
+use Rattle.std.specs.Prelude.{ℕ, ◌≡◌, ◌⊎◌, List, [], ◌∷◌, ◌++◌, map, Option, Some, None, codes, decimal, string_bytes}
+use Rattle.std.specs.Io.KnownBytes.{append_known}
+use Rattle.at_source.specs.Faults.{Rose}
+use Rattle.at_source.specs.Whole.{GaveAll, GaveFirst, GaveFewer, GrewByFront}
+use Rattle.at_script.specs.declared.fault.Cause as cause
+use Rattle.at_script.specs.declared.fault.Cause.TheVariants as causes
+use Rattle.at_script.specs.Parts.{Parts}
+use Rattle.at_script.specs.Script.{script_of}
+use Rattle.at_text.specs.Transcript.{text}
+use Rattle.attrs.specs.Run.{run_of}
+use Rattle.attrs.specs.declared.status.Status as status
+use Rattle.attrs.specs.declared.status.Status.TheVariants as statuses
+
+-- The texts
+
+abbrev pub cause_word : cause.Cause → List ℕ
+cause_word causes.Byte = codes "byte"
+cause_word causes.Header = codes "header"
+cause_word causes.Word = codes "word"
+cause_word causes.Place = codes "place"
+cause_word causes.Form = codes "form"
+cause_word causes.Number = codes "number"
+cause_word causes.Name = codes "name"
+cause_word causes.Class = codes "class"
+cause_word causes.Func = codes "func"
+cause_word causes.Limit = codes "limit"
+cause_word causes.End = codes "end"
+cause_word causes.Script = codes "script"
+
+-- why the bytes are no script
+abbrev pub refusal_text : ℕ → cause.Cause → List ℕ
+refusal_text line cause = codes "refused " ++ decimal line ++ codes " " ++ cause_word cause ++ codes "\n"
+
+abbrev pub too_long_text : List ℕ
+too_long_text = codes "refused 0 long\n"
+
+abbrev pub usage_text : List ℕ
+usage_text = codes "usage: attrs run or plain or make SEED COUNT\n"
+
+-- the transcript of a script of these bytes
+abbrev pub transcript_of : List ℕ → Parts → List ℕ
+transcript_of bytes s = text bytes s (run_of s).lines (run_of s).last
+
+abbrev pub text_by : List ℕ → Option Parts → List ℕ
+text_by bytes (Some s) = transcript_of bytes s
+text_by bytes None = refusal_text 0 causes.Script
+
+-- what is written for an input that was read to its end: the transcript of its one run, or that it is no script
+abbrev pub text_of : List ℕ → List ℕ
+text_of bytes = text_by bytes (script_of bytes)
+
+-- The answers
+
+-- what the source has left and the sink has written, where they tell it, and how often each failed
+pub record Ends : Type 0 where
+  pub left : Option (List ℕ)
+  pub written : Option (List ℕ)
+  pub read_faults : ℕ
+  pub write_faults : ℕ
+
+-- a script has at most 1,048,576 bytes
+abbrev pub too_many : ℕ
+too_many = 1048577
+
+-- all the text was written
+abbrev pub Wrote : Ends → Ends → List ℕ → Type 0
+Wrote before now bytes = now.written ≡ append_known before.written bytes
+
+-- the sink failed, and a front of the text was written
+abbrev pub FailedWriting : Ends → Ends → List ℕ → Type 0
+FailedWriting before now bytes = Rose before.write_faults now.write_faults × GrewByFront before.written now.written bytes
+
+-- What is so at each answer to a script that is read and run: the text is written whole where the source gave a script
+-- to its end; it is refused where what the source gave to its end is no script, and where the source gave more bytes than
+-- a script has; a fault is answered only where the count of the source or the sink rose. Want of memory alone has no
+-- cause; then, and at a fault of the source, nothing is written.
+abbrev pub IsAnswer : Ends → Ends → status.Status → Type 0
+IsAnswer before now statuses.Good = (bytes : List ℕ) × (s : Parts) × GaveAll before.left now.left bytes × (script_of bytes ≡ Some s) × Wrote before now (transcript_of bytes s)
+IsAnswer before now (statuses.Refused line cause) =
+    (bytes : List ℕ) × GaveAll before.left now.left bytes × (script_of bytes ≡ None) × (line ≡ 0) × (cause ≡ causes.Script) × Wrote before now (refusal_text line cause)
+IsAnswer before now statuses.TooLong = GaveFirst too_many before.left now.left × Wrote before now too_long_text
+IsAnswer before now statuses.Usage = ⊥
+IsAnswer before now statuses.NoMemory = now.written ≡ before.written
+IsAnswer before now statuses.ReadFault = Rose before.read_faults now.read_faults × GaveFewer too_many before.left now.left × (now.written ≡ before.written)
+IsAnswer before now statuses.WriteFault =
+    ((bytes : List ℕ) × GaveAll before.left now.left bytes × FailedWriting before now (text_of bytes))
+    ⊎ (GaveFirst too_many before.left now.left × FailedWriting before now too_long_text)
+
+-- what is so at each answer to an input that was read to its end
+abbrev pub IsTextAnswer : List ℕ → Ends → Ends → status.Status → Type 0
+IsTextAnswer bytes before now statuses.Good = (s : Parts) × (script_of bytes ≡ Some s) × Wrote before now (transcript_of bytes s)
+IsTextAnswer bytes before now (statuses.Refused line cause) = (script_of bytes ≡ None) × (line ≡ 0) × (cause ≡ causes.Script) × Wrote before now (refusal_text line cause)
+IsTextAnswer bytes before now statuses.NoMemory = now.written ≡ before.written
+IsTextAnswer bytes before now statuses.WriteFault = FailedWriting before now (text_of bytes)
+IsTextAnswer bytes before now statuses.TooLong = ⊥
+IsTextAnswer bytes before now statuses.Usage = ⊥
+IsTextAnswer bytes before now statuses.ReadFault = ⊥
+
+-- what is so at each answer to words that are no command: nothing is read, and the usage line is written
+abbrev pub IsUsageAnswer : Ends → Ends → status.Status → Type 0
+IsUsageAnswer before now statuses.Usage = (now.left ≡ before.left) × Wrote before now usage_text
+IsUsageAnswer before now statuses.WriteFault = (now.left ≡ before.left) × FailedWriting before now usage_text
+IsUsageAnswer before now _ = ⊥
