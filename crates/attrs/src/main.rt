@@ -6,6 +6,8 @@ mod gate;
 mod plain_run;
 mod status;
 mod telling;
+#[cfg(test)]
+mod tests;
 
 use at_source::{StdSink, StdSource};
 use command::attrs;
