@@ -29,5 +29,6 @@ abbrev pub two_of : {X : Type 0} → List X → Option (X × X)
 two_of [] = None
 two_of (x ∷ rest) = two_with x (one_of rest)
 
+-- what two references lead to
 abbrev pub both_now : Bor (List ℕ) × Bor (List ℕ) → List ℕ × List ℕ
 both_now p = (p.0.now, p.1.now)

@@ -2,7 +2,6 @@
 use Rattle.std.specs.Prelude.{ℕ, ◌==◌, List, [], ◌∷◌, Option, Some, None, if◌then◌else◌, codes, bytes_eq, option_and_then}
 use Rattle.std.specs.Option.{option_map}
 use Rattle.std.specs.List.{slice_split}
-use Rattle.std.specs.Borrow.{Bor}
 use Rattle.at_value.specs.declared.value.Value as values
 use Rattle.at_script.specs.declared.shape.Shape.{Shape}
 use Rattle.at_script.specs.declared.shape.Shape.TheVariants.{Class, Put, New, Set, Get}
@@ -27,9 +26,6 @@ said (Put c x v) = put c.now x.now v
 said (New a c) = new a.now c.now
 said (Set a x v) = set a.now x.now v
 said (Get a x) = get a.now x.now
-
-abbrev pub owner_and_name : Bor (List ℕ) × Bor (List ℕ) → List ℕ × List ℕ
-owner_and_name p = (p.0.now, p.1.now)
 
 -- what stands on the two sides of the one dot, of which the second names an attribute
 abbrev pub attribute_of : List ℕ → Option (List ℕ × List ℕ)

@@ -23,11 +23,16 @@ const BYTES_MOST: usize = 1_048_576;
 /// How many statements a script has at most.
 const STATEMENTS_MOST: usize = 10_000;
 
-/// Reads the text of a script.
+/// Reads the text of a script, of at most 1,048,576 bytes.
 ///
-/// Lines are parted by newlines, and words of a line by one blank. The first line is `attrs 1`, the second `main`, the
-/// last `end`; between them stand statements: `class C B..`, `put C.x V`, `new a C`, `set a.x V` and `get a.x`, where V
-/// is `none` or a number of 32 bits. All other bytes are refused, with line 0 and `Cause::Script`.
+/// Lines are parted by newlines, and the words of a line by one blank. The first line is `attrs 1`, the second `main`,
+/// the last `end`; between them stand at most 10,000 statements: `class C B..`, `put C.x V`, `new a C`, `set a.x V` and
+/// `get a.x`. C and B are classes, `object` or such as some line declares, with at most eight B; a is a variable, which
+/// is called as no class is; x is the name of an attribute, not `mro` nor one that begins with `__`; V is `none` or a
+/// number of 32 bits. An identifier has at most 32 bytes. There are at most 255 classes with `object`, 4,096 names with
+/// the five special ones, and 1,024 variables.
+///
+/// All other bytes are refused, with line 0 and `Cause::Script`.
 pub fn read(alloc: Global, bytes: &[u8]) -> Result<Script, ReadFault>
     ensures accepted { IfOk result (λ script. script_of bytes.now ≡ Some script) }
     ensures refused { IfErr result (IsFaultAt (script_of bytes.now)) }

@@ -1,8 +1,8 @@
 //! What a line says, before its words are looked up.
 ghost use Rattle.std.specs.Prelude.{◌≡◌};
 ghost use Rattle.std.specs.Option.{option_map, option_copied};
-ghost use Rattle.at_script.specs.Pieces.{pieces_left};
-ghost use Rattle.at_script.specs.Shapes.{said, owner_and_name, attribute_of, class_says, put_says, new_says, set_says, get_says, words_say, declared_by};
+ghost use Rattle.at_script.specs.Pieces.{pieces_left, both_now};
+ghost use Rattle.at_script.specs.Shapes.{said, attribute_of, class_says, put_says, new_says, set_says, get_says, words_say, declared_by};
 
 use crate::pieces::Pieces;
 use crate::word::{attribute_name_of, identifier_of, value_of};
@@ -25,7 +25,7 @@ pub enum Shape<'a> {
 
 /// The two sides of the dot of `C.x` or `a.x`, of which the second names an attribute.
 fn attribute_of(word: &[u8]) -> Option<(&[u8], &str)>
-    ensures { option_map owner_and_name result ≡ attribute_of word.now }
+    ensures { option_map both_now result ≡ attribute_of word.now }
 {
     let (owner, name) = Pieces::new(word, b'.').two()?;
     Some((owner, attribute_name_of(name)?))

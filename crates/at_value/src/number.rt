@@ -97,7 +97,11 @@ impl Class {
         ensures some { IfSome result (λ class. (class ≡ n) × (n < 255)) }
         ensures none { IfNone result (255 ≤ n) }
     {
-        if n < Self::COUNT { Some(Class(n)) } else { None }
+        if n < Self::COUNT {
+            Some(Class(n))
+        } else {
+            None
+        }
     }
 
     /// The number of the class, from 0 to 254.

@@ -77,12 +77,12 @@ kept_names classes changed orders objects dicts c names kept is =
     rw is (elim (row_of classes c) as (λ row. row_of classes c ≡ row → IsKept (with_names classes c row names) orders objects dicts) [
       | None ↦ λ _. kept
       | Some row ↦ λ at. record {
-          numbered = length-set classes c (Some (record row { own = names })) ∙ kept.numbered;
-          ordered = kept.ordered;
-          orders_are = AreOrders-same_bases classes (set classes c (Some (record row { own = names }))) orders (same_bases-own classes c row names at) (sym (length-set classes c (Some (record row { own = names })))) kept.orders_are;
-          few = kept.few;
-          named = kept.named;
-        }
+        numbered = length-set classes c (Some (record row { own = names })) ∙ kept.numbered;
+        ordered = kept.ordered;
+        orders_are = AreOrders-same_bases classes (set classes c (Some (record row { own = names }))) orders (same_bases-own classes c row names at) (sym (length-set classes c (Some (record row { own = names })))) kept.orders_are;
+        few = kept.few;
+        named = kept.named;
+      }
     ] refl)
 
 none_made : (n c : ℕ) → row_of (replicate n None) c ≡ None

@@ -46,7 +46,13 @@ fn descriptor_read(get: Option<Value>, d: Obj, instance: Value, c: Class) -> Rep
     ensures { result ≡ read_descriptor get d instance c }
 {
     match get {
-        Some(callee) => Reply::Hook(HookKind::DescGet, callee, Value::Obj(d), instance, Value::Class(c)),
+        Some(callee) => Reply::Hook(
+            HookKind::DescGet,
+            callee,
+            Value::Obj(d),
+            instance,
+            Value::Class(c),
+        ),
         None => Reply::Value(Value::Obj(d)),
     }
 }

@@ -194,7 +194,11 @@ impl Plain {
         ensures { result ≡ world.find_in self.now.world c n }
     {
         if self.has_class(c) {
-            find_along_order(&self.classes, self.orders[usize::from(c.number())].as_slice(), n)
+            find_along_order(
+                &self.classes,
+                self.orders[usize::from(c.number())].as_slice(),
+                n,
+            )
         } else {
             None
         }
@@ -277,7 +281,12 @@ impl Plain {
             numbers.push(base.number())?;
             orders.push(self.orders[usize::from(base.number())].as_slice())?;
         }
-        order_of_slices(self.alloc, c.number(), numbers.as_slice(), orders.as_slice())
+        order_of_slices(
+            self.alloc,
+            c.number(),
+            numbers.as_slice(),
+            orders.as_slice(),
+        )
     }
 
     /// Puts a value under a name of a class that is made.

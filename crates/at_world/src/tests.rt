@@ -31,7 +31,12 @@ fn bases(numbers: &[u16]) -> Result<Bases, Fail> {
 }
 
 /// Applies the operation, and compares the reply as it is printed for debugging.
-fn replies<R: Abort + AllocGlobal>(rt: &R, plain: &mut Plain, op: Op, wanted: &str) -> Result<(), Fail>
+fn replies<R: Abort + AllocGlobal>(
+    rt: &R,
+    plain: &mut Plain,
+    op: Op,
+    wanted: &str,
+) -> Result<(), Fail>
     requires { IsKnown op }
 {
     let reply = plain.apply(&op)?;
@@ -40,7 +45,13 @@ fn replies<R: Abort + AllocGlobal>(rt: &R, plain: &mut Plain, op: Op, wanted: &s
     Ok(())
 }
 
-fn define<R: Abort + AllocGlobal>(rt: &R, plain: &mut Plain, c: u16, of: &[u16], wanted: &str) -> Result<(), Fail> {
+fn define<R: Abort + AllocGlobal>(
+    rt: &R,
+    plain: &mut Plain,
+    c: u16,
+    of: &[u16],
+    wanted: &str,
+) -> Result<(), Fail> {
     replies(rt, plain, Op::NewClass(class(c)?, bases(of)?), wanted)
 }
 
@@ -71,30 +82,78 @@ fn descriptors_bind(rt: HostRuntime) -> Result<(), Fail> {
     let (descriptor, a) = (object(0)?, object(1)?);
     // A property comes before the object's own value.
     replies(&rt, plain, Op::Set(a, x, Value::Int(5)), "Done")?;
-    replies(&rt, plain, Op::TypeSet(c, x, Value::Prop(Prop::new(Some(f), None, None))), "Done")?;
-    replies(&rt, plain, Op::Get(a, x), "Hook(Getter, Func(Func(0)), Obj(Obj(1)), Nothing, Nothing)")?;
+    replies(
+        &rt,
+        plain,
+        Op::TypeSet(c, x, Value::Prop(Prop::new(Some(f), None, None))),
+        "Done",
+    )?;
+    replies(
+        &rt,
+        plain,
+        Op::Get(a, x),
+        "Hook(Getter, Func(Func(0)), Obj(Obj(1)), Nothing, Nothing)",
+    )?;
     replies(&rt, plain, Op::Set(a, x, Value::Int(6)), "NoSetter")?;
     // A function doesn't.
     replies(&rt, plain, Op::TypeSet(c, x, Value::Func(f)), "Done")?;
     replies(&rt, plain, Op::Get(a, x), "Value(Int(5))")?;
     replies(&rt, plain, Op::Get(descriptor, x), "NoAttr")?;
     // An object of the class becomes a descriptor when its class gets `__set__`, and then one for reading too.
-    replies(&rt, plain, Op::TypeSet(c, x, Value::Obj(descriptor)), "Done")?;
+    replies(
+        &rt,
+        plain,
+        Op::TypeSet(c, x, Value::Obj(descriptor)),
+        "Done",
+    )?;
     replies(&rt, plain, Op::Set(a, x, Value::Int(1)), "Done")?;
-    replies(&rt, plain, Op::TypeSet(d, Name::descriptor_set(), Value::Func(f)), "Done")?;
-    replies(&rt, plain, Op::Set(a, x, Value::Int(2)), "Hook(DescSet, Func(Func(0)), Obj(Obj(0)), Obj(Obj(1)), Int(2))")?;
+    replies(
+        &rt,
+        plain,
+        Op::TypeSet(d, Name::descriptor_set(), Value::Func(f)),
+        "Done",
+    )?;
+    replies(
+        &rt,
+        plain,
+        Op::Set(a, x, Value::Int(2)),
+        "Hook(DescSet, Func(Func(0)), Obj(Obj(0)), Obj(Obj(1)), Int(2))",
+    )?;
     replies(&rt, plain, Op::Get(a, x), "Value(Int(1))")?;
-    replies(&rt, plain, Op::TypeSet(d, Name::descriptor_get(), Value::Func(f)), "Done")?;
-    replies(&rt, plain, Op::Get(a, x), "Hook(DescGet, Func(Func(0)), Obj(Obj(0)), Obj(Obj(1)), Class(Class(1)))")?;
+    replies(
+        &rt,
+        plain,
+        Op::TypeSet(d, Name::descriptor_get(), Value::Func(f)),
+        "Done",
+    )?;
+    replies(
+        &rt,
+        plain,
+        Op::Get(a, x),
+        "Hook(DescGet, Func(Func(0)), Obj(Obj(0)), Obj(Obj(1)), Class(Class(1)))",
+    )?;
     // `__getattr__` answers where nothing was found.
-    replies(&rt, plain, Op::TypeSet(c, Name::getattr(), Value::Func(f)), "Done")?;
-    replies(&rt, plain, Op::Get(a, name(9)?), "Hook(GetAttr, Func(Func(0)), Obj(Obj(1)), Text(Name(9)), Nothing)")?;
+    replies(
+        &rt,
+        plain,
+        Op::TypeSet(c, Name::getattr(), Value::Func(f)),
+        "Done",
+    )?;
+    replies(
+        &rt,
+        plain,
+        Op::Get(a, name(9)?),
+        "Hook(GetAttr, Func(Func(0)), Obj(Obj(1)), Text(Name(9)), Nothing)",
+    )?;
     Ok(())
 }
 
 #[test]
 fn diamonds_have_the_orders_of_c3(rt: HostRuntime) -> Result<(), Fail> {
-    for (of_b, wanted) in [([3, 2], "[6, 5, 4, 3, 2, 1, 0]"), ([2, 3], "[6, 5, 2, 4, 3, 1, 0]")] {
+    for (of_b, wanted) in [
+        ([3, 2], "[6, 5, 4, 3, 2, 1, 0]"),
+        ([2, 3], "[6, 5, 2, 4, 3, 1, 0]"),
+    ] {
         // F, E, D, then C D F, B D E or B E D, A B C.
         let plain = &mut Plain::new(rt.alloc())?;
         define(&rt, plain, 1, &[0], "Done")?;
@@ -131,9 +190,24 @@ fn refusals_come_in_their_order(rt: HostRuntime) -> Result<(), Fail> {
     define(&rt, plain, 6, &[1, 1], "Duplicate")?;
     replies(&rt, plain, Op::New(class(5)?), "NoClass")?;
     replies(&rt, plain, Op::New(Class::object()), "Immutable")?;
-    replies(&rt, plain, Op::TypeSet(Class::object(), name(5)?, Value::Nothing), "Immutable")?;
-    replies(&rt, plain, Op::TypeSet(Class::object(), name(5)?, Value::Class(class(5)?)), "NoClass")?;
-    replies(&rt, plain, Op::TypeSet(class(5)?, name(5)?, Value::Obj(object(0)?)), "NoAttr")?;
+    replies(
+        &rt,
+        plain,
+        Op::TypeSet(Class::object(), name(5)?, Value::Nothing),
+        "Immutable",
+    )?;
+    replies(
+        &rt,
+        plain,
+        Op::TypeSet(Class::object(), name(5)?, Value::Class(class(5)?)),
+        "NoClass",
+    )?;
+    replies(
+        &rt,
+        plain,
+        Op::TypeSet(class(5)?, name(5)?, Value::Obj(object(0)?)),
+        "NoAttr",
+    )?;
     replies(&rt, plain, Op::Get(object(0)?, name(5)?), "NoAttr")?;
     assert_eq!(rt; plain.place().0, 4);
     Ok(())
@@ -147,7 +221,12 @@ fn objects_come_to_an_end(rt: HostRuntime) -> Result<(), Fail> {
         let _ = plain.apply(&Op::New(class(1)?))?;
     }
     replies(&rt, plain, Op::New(class(1)?), "Full")?;
-    replies(&rt, plain, Op::Set(object(4095)?, name(5)?, Value::Int(3)), "Done")?;
+    replies(
+        &rt,
+        plain,
+        Op::Set(object(4095)?, name(5)?, Value::Int(3)),
+        "Done",
+    )?;
     let last = plain.last()?;
     assert_eq!(rt; last.objects.len(), 4096);
     let own = last.objects.at(4095).map_or(0, |end| end.own.len());

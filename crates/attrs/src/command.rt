@@ -32,10 +32,10 @@ pub fn attrs<R: Wait + Threads + Sync, S: Source, K: Sink, G: Gate + Sync>(
 ) -> Status
     ensures run { map string_bytes words.now ≡ codes "run" ∷ [] →
         IsAnswer (record { left = S.left src.old; written = K.written out.old; read_faults = S.faults src.old; write_faults = K.faults out.old })
-            (record { left = S.left src.new; written = K.written out.new; read_faults = S.faults src.new; write_faults = K.faults out.new }) result }
+        (record { left = S.left src.new; written = K.written out.new; read_faults = S.faults src.new; write_faults = K.faults out.new }) result }
     ensures usage { ¬ (map string_bytes words.now ≡ codes "run" ∷ []) →
         IsUsageAnswer (record { left = S.left src.old; written = K.written out.old; read_faults = S.faults src.old; write_faults = K.faults out.old })
-            (record { left = S.left src.new; written = K.written out.new; read_faults = S.faults src.new; write_faults = K.faults out.new }) result }
+        (record { left = S.left src.new; written = K.written out.new; read_faults = S.faults src.new; write_faults = K.faults out.new }) result }
     ensures later { (S.faults src.old ≤ S.faults src.new) × (K.faults out.old ≤ K.faults out.new) }
 {
     if is_run(words) {
@@ -56,7 +56,7 @@ fn is_run(words: &[String]) -> bool
 fn usage<K: Sink>(out: &mut K) -> Status
     ensures answer { (left : Option (List ℕ)) (faults : ℕ) →
         IsUsageAnswer (record { left = left; written = K.written out.old; read_faults = faults; write_faults = K.faults out.old })
-            (record { left = left; written = K.written out.new; read_faults = faults; write_faults = K.faults out.new }) result }
+        (record { left = left; written = K.written out.new; read_faults = faults; write_faults = K.faults out.new }) result }
     ensures later { K.faults out.old ≤ K.faults out.new }
 {
     match tell(out, b"usage: attrs run or plain or make SEED COUNT\n") {
@@ -85,7 +85,7 @@ pub fn plain_text<S: Source, K: Sink>(alloc: Global, src: &mut S, out: &mut K) -
 fn too_long<K: Sink>(out: &mut K) -> Status
     ensures answer { (before now : Option (List ℕ)) (faults risen : ℕ) → GaveFirst 1048577 before now →
         IsAnswer (record { left = before; written = K.written out.old; read_faults = faults; write_faults = K.faults out.old })
-            (record { left = now; written = K.written out.new; read_faults = risen; write_faults = K.faults out.new }) result }
+        (record { left = now; written = K.written out.new; read_faults = risen; write_faults = K.faults out.new }) result }
     ensures later { K.faults out.old ≤ K.faults out.new }
 {
     match tell(out, b"refused 0 long\n") {
@@ -98,7 +98,7 @@ fn too_long<K: Sink>(out: &mut K) -> Status
 fn answer<K: Sink>(alloc: Global, bytes: &[u8], out: &mut K) -> Status
     ensures answer { (left now : Option (List ℕ)) (faults risen : ℕ) →
         IsTextAnswer bytes.now (record { left = left; written = K.written out.old; read_faults = faults; write_faults = K.faults out.old })
-            (record { left = now; written = K.written out.new; read_faults = risen; write_faults = K.faults out.new }) result }
+        (record { left = now; written = K.written out.new; read_faults = risen; write_faults = K.faults out.new }) result }
     ensures later { K.faults out.old ≤ K.faults out.new }
 {
     match at_script::read(alloc, bytes) {
@@ -113,7 +113,7 @@ fn transcribe<K: Sink>(alloc: Global, bytes: &[u8], script: &Script, out: &mut K
     requires { script_of bytes.now ≡ Some script.now }
     ensures answer { (left now : Option (List ℕ)) (faults risen : ℕ) →
         IsTextAnswer bytes.now (record { left = left; written = K.written out.old; read_faults = faults; write_faults = K.faults out.old })
-            (record { left = now; written = K.written out.new; read_faults = risen; write_faults = K.faults out.new }) result }
+        (record { left = now; written = K.written out.new; read_faults = risen; write_faults = K.faults out.new }) result }
     ensures later { K.faults out.old ≤ K.faults out.new }
 {
     let Ok(ran) = run_main(alloc, script) else {

@@ -133,12 +133,7 @@ fn demand_of(variables: &[Option<Value>], statement: &Stmt) -> Demand
 }
 
 /// What a `set` asks for.
-fn set_demand(
-    variables: &[Option<Value>],
-    target: &Target,
-    name: Name,
-    operand: &Operand,
-) -> Demand
+fn set_demand(variables: &[Option<Value>], target: &Target, name: Name, operand: &Operand) -> Demand
     ensures same { result ≡ run.asks (run.and_then (run.target_object variables.now target.now) (λ o. run.and_then (run.operand_value variables.now operand.now) (λ v. Ok (ops.Set o name v)))) }
     ensures known { run.IsKnownDemand result }
 {

@@ -10,7 +10,8 @@ use std::test::Fail;
 
 const FIRST: &str = "attrs 1\nmain\nclass C\nput C.x 1\nnew a C\nget a.x\nget a.x\nend\n";
 
-const TRANSCRIPT: &str = "attrs transcript 1\nscript 59\nattrs 1\nmain\nclass C\nput C.x 1\nnew a C\nget a.x\nget a.x\nend\n\nlines 5\nm 1 1 locked class C object = done\nm 2 2 locked put C.x 1 = done\nm 3 3 locked new C = made #0\nm 4 3 locked get #0.x = value 1\nm 5 3 locked get #0.x = value 1\nfinal\nclass object = object\nclass C = C object\n.x 1\nobject #0 C\nend\n";
+const TRANSCRIPT: &str =
+    "attrs transcript 1\nscript 59\nattrs 1\nmain\nclass C\nput C.x 1\nnew a C\nget a.x\nget a.x\nend\n\nlines 5\nm 1 1 locked class C object = done\nm 2 2 locked put C.x 1 = done\nm 3 3 locked new C = made #0\nm 4 3 locked get #0.x = value 1\nm 5 3 locked get #0.x = value 1\nfinal\nclass object = object\nclass C = C object\n.x 1\nobject #0 C\nend\n";
 
 const NOT_A_SCRIPT: Status = Status::Refused(0, Cause::Script);
 
@@ -34,11 +35,19 @@ fn call(alloc: Global, number: u64) -> Result<Vec<u64>, AllocError> {
 #[test]
 fn texts_and_statuses(rt: HostRuntime) -> Result<(), Fail> {
     let rows = [
-        ("attrs 1\nmain\nend\n", "attrs transcript 1\nscript 17\nattrs 1\nmain\nend\n\nlines 0\nfinal\nclass object = object\nend\n", Status::Good),
+        (
+            "attrs 1\nmain\nend\n",
+            "attrs transcript 1\nscript 17\nattrs 1\nmain\nend\n\nlines 0\nfinal\nclass object = object\nend\n",
+            Status::Good,
+        ),
         (FIRST, TRANSCRIPT, Status::Good),
         ("", "refused 0 script\n", NOT_A_SCRIPT),
         ("attrs 2\nmain\nend\n", "refused 0 script\n", NOT_A_SCRIPT),
-        ("attrs 1\nmain\nset a.\nend\n", "refused 0 script\n", NOT_A_SCRIPT),
+        (
+            "attrs 1\nmain\nset a.\nend\n",
+            "refused 0 script\n",
+            NOT_A_SCRIPT,
+        ),
     ];
     for (script, wanted, status) in rows {
         for (most_read, most_written) in [(100_000, 100_000), (1, 100_000), (100_000, 1), (7, 3)] {
@@ -58,7 +67,10 @@ fn a_read_fault_writes_nothing(rt: HostRuntime) -> Result<(), Fail> {
     for number in 0..10 {
         let mut src = source(rt.alloc(), FIRST, 7, call(rt.alloc(), number)?)?;
         let mut out = MemSink::new(rt.alloc(), 1000, 1000, none(rt.alloc()))?;
-        assert!(rt; plain_text(rt.alloc(), &mut src, &mut out) == Status::ReadFault, "read {number}");
+        assert!(rt;
+            plain_text(rt.alloc(), &mut src, &mut out) == Status::ReadFault,
+            "read {number}"
+        );
         assert_eq!(rt; out.bytes().len(), 0, "read {number}");
     }
     Ok(())
@@ -70,28 +82,50 @@ fn a_write_fault_leaves_a_front(rt: HostRuntime) -> Result<(), Fail> {
     for number in 0..=TRANSCRIPT.len() {
         let mut src = source(rt.alloc(), FIRST, 1000, none(rt.alloc()))?;
         let mut out = MemSink::new(rt.alloc(), 1000, 1, call(rt.alloc(), number as u64)?)?;
-        assert!(rt; plain_text(rt.alloc(), &mut src, &mut out) == Status::WriteFault, "write {number}");
-        assert_eq!(rt; out.bytes(), &TRANSCRIPT.as_bytes()[..number], "write {number}");
+        assert!(rt;
+            plain_text(rt.alloc(), &mut src, &mut out) == Status::WriteFault,
+            "write {number}"
+        );
+        assert_eq!(rt;
+            out.bytes(),
+            &TRANSCRIPT.as_bytes()[..number],
+            "write {number}"
+        );
     }
     // A sink without room for it all.
     for room in 0..TRANSCRIPT.len() {
         let mut src = source(rt.alloc(), FIRST, 1000, none(rt.alloc()))?;
         let mut out = MemSink::new(rt.alloc(), room, 100, none(rt.alloc()))?;
-        assert!(rt; plain_text(rt.alloc(), &mut src, &mut out) == Status::WriteFault, "room {room}");
+        assert!(rt;
+            plain_text(rt.alloc(), &mut src, &mut out) == Status::WriteFault,
+            "room {room}"
+        );
         assert_eq!(rt; out.bytes(), &TRANSCRIPT.as_bytes()[..room], "room {room}");
     }
     // The texts that refuse.
     for number in 0..17 {
         let mut src = source(rt.alloc(), "", 1000, none(rt.alloc()))?;
         let mut out = MemSink::new(rt.alloc(), 1000, 1, call(rt.alloc(), number)?)?;
-        assert!(rt; plain_text(rt.alloc(), &mut src, &mut out) == Status::WriteFault, "write {number}");
+        assert!(rt;
+            plain_text(rt.alloc(), &mut src, &mut out) == Status::WriteFault,
+            "write {number}"
+        );
     }
     Ok(())
 }
 
 #[test]
 fn words_are_compared_whole(rt: HostRuntime) -> Result<(), Fail> {
-    let rows: [&[&str]; 8] = [&[], &["run", "x"], &["RUN"], &["runs"], &["plain"], &["make", "1", "1"], &["check"], &[""]];
+    let rows: [&[&str]; 8] = [
+        &[],
+        &["run", "x"],
+        &["RUN"],
+        &["runs"],
+        &["plain"],
+        &["make", "1", "1"],
+        &["check"],
+        &[""],
+    ];
     for row in rows {
         let mut words = Vec::new(rt.alloc());
         for word in row {
@@ -101,7 +135,10 @@ fn words_are_compared_whole(rt: HostRuntime) -> Result<(), Fail> {
         let mut out = MemSink::new(rt.alloc(), 1000, 1000, none(rt.alloc()))?;
         let status = attrs(&rt, rt.alloc(), &words, &mut src, &mut out, &OpenGate);
         assert!(rt; status == Status::Usage);
-        assert_eq!(rt; out.bytes(), b"usage: attrs run or plain or make SEED COUNT\n".as_slice());
+        assert_eq!(rt;
+            out.bytes(),
+            b"usage: attrs run or plain or make SEED COUNT\n".as_slice()
+        );
         assert_eq!(rt; status.code(), 2);
     }
     let words = vec![in rt.alloc(); format!(in rt.alloc(); "run")?]?;
@@ -132,7 +169,11 @@ fn statuses_have_their_codes(rt: HostRuntime) {
 
 #[test]
 fn long_inputs_are_refused(rt: HostRuntime) -> Result<(), Fail> {
-    for (length, wanted, status) in [(1_048_576, "refused 0 script\n", NOT_A_SCRIPT), (1_048_577, "refused 0 long\n", Status::TooLong), (1_100_000, "refused 0 long\n", Status::TooLong)] {
+    for (length, wanted, status) in [
+        (1_048_576, "refused 0 script\n", NOT_A_SCRIPT),
+        (1_048_577, "refused 0 long\n", Status::TooLong),
+        (1_100_000, "refused 0 long\n", Status::TooLong),
+    ] {
         let bytes = vec![in rt.alloc(); b'a'; length]?;
         let mut src = MemSource::new(bytes, 100_000, none(rt.alloc()));
         let mut out = MemSink::new(rt.alloc(), 1000, 1000, none(rt.alloc()))?;

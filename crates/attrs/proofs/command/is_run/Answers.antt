@@ -9,6 +9,7 @@ pub returns-then-words-eq1 : goal.returns-then-words-eq1
 returns-then-words-eq1 c =
     let one : length c.args.words.now ≡ 1 = grind (arith, nat_tests) in
     let all = lone string_bytes c.args.words.now c.index-words-0.result one c.index-words-0.is in
-    let decides = bytes_eq-Decides c.as_str.result.now (codes "run") in
-    (λ yes. all ∙ ap (λ w. w ∷ []) (sym c.as_str.ensures.value ∙ decides.0 (sym c.eq.ensures ∙ yes)),
-    λ is. c.eq.ensures ∙ decides.1 (c.as_str.ensures.value ∙ ap head_or (sym all ∙ is)))
+    let decides = bytes_eq-Decides c.as_str.result.now (codes "run") in (
+      λ yes. all ∙ ap (λ w. w ∷ []) (sym c.as_str.ensures.value ∙ decides.0 (sym c.eq.ensures ∙ yes)),
+      λ is. c.eq.ensures ∙ decides.1 (c.as_str.ensures.value ∙ ap head_or (sym all ∙ is)),
+    )

@@ -27,7 +27,7 @@ returns-in-Ok-clause-ok c =
       place = c.self.inside.place;
     } in
     let Claim : State → Type 0 = λ s.
-      (replies.Done ≡ (if_ordered s.world (with_class s.world c.args.c c.args.bases.now)).reply) × (now ≡ record { world = (if_ordered s.world (with_class s.world c.args.c c.args.bases.now)).world; place = s.place }) in
+    (replies.Done ≡ (if_ordered s.world (with_class s.world c.args.c c.args.bases.now)).reply) × (now ≡ record { world = (if_ordered s.world (with_class s.world c.args.c c.args.bases.now)).world; place = s.place }) in
     subst Claim c.self.view_is (defined_state c.self.inside.classes.items (lists_of c.self.inside.orders.items) c.self.inside.objects.items c.self.inside.dicts.items c.self.inside.place c.args.c c.from-i.result c.args.bases.now c.in-Ok.order.items c.new.result
     c.self.invariant.orders_are (subst IsFree (sym c.self.view_is) c.requires.free) (subst IsOrder (sym c.self.view_is) c.in-Ok.ensures.ordered) (omega (arith, c.from-i.ensures, c.number.ensures.same)) c.new.ensures)
 

@@ -14,9 +14,9 @@ gathered c =
     let IsFree : State → Type 0 = λ s. row_of s.world.classes c.args.c ≡ None in
     let AreMade : State → Type 0 = λ s. IsTrue (are_made s.world c.args.bases.now) in
     rw (← c.self.view_is) (gathered_order c.self.inside.classes.items (lists_of c.self.inside.orders.items) c.args.c c.number-2.result c.loop-base.base-index c.args.bases.now
-        c.as_slice-base-items.result.now c.as_slice-2.result.now (contents c.as_slice-3.result.now)
-        c.self.invariant.orders_are (subst IsFree (sym c.self.view_is) c.requires.free) below (subst AreMade (sym c.self.view_is) c.requires.made) c.number-2.ensures.same c.as_slice-base-items.ensures (omega (arith, c.loop-base-test.false))
-        (c.as_slice-2.ensures ∙ c.loop-base.invariant.numbers) (ap contents c.as_slice-3.ensures ∙ c.loop-base.invariant.orders))
+    c.as_slice-base-items.result.now c.as_slice-2.result.now (contents c.as_slice-3.result.now)
+    c.self.invariant.orders_are (subst IsFree (sym c.self.view_is) c.requires.free) below (subst AreMade (sym c.self.view_is) c.requires.made) c.number-2.ensures.same c.as_slice-base-items.ensures (omega (arith, c.loop-base-test.false))
+    (c.as_slice-2.ensures ∙ c.loop-base.invariant.numbers) (ap contents c.as_slice-3.ensures ∙ c.loop-base.invariant.orders))
 
 pub returns-clause-ordered : goal.returns-clause-ordered
 returns-clause-ordered c = IfOk-weaker c.order_of_slices.result _ _ (λ order found. gathered c ∙ found) c.order_of_slices.ensures.ordered
