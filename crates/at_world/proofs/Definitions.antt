@@ -1,5 +1,5 @@
 -- What is kept, as classes are made and get names.
-use Rattle.std.proofs.Common.{◌≡◌, ◌∙◌, ap, sym, refl, subst, ℕ, zero, suc, ◌<◌, ◌≤◌, ◌∷◌, ◌++◌, length, get_or, set, take, drop, replicate, List, [], map, Option, Some, None, Bool, true, false, is_some, IsTrue, ◌==◌, lit<, arith}
+use Rattle.std.proofs.Common.{◌≡◌, ◌∙◌, ap, sym, refl, ℕ, zero, suc, ◌<◌, ◌≤◌, ◌∷◌, ◌++◌, length, get_or, set, take, drop, replicate, List, [], map, Option, Some, None, true, false, is_some, IsTrue, ◌==◌, lit<, arith}
 use Rattle.std.specs.List.{list_all}
 use Rattle.std.proofs.lemmas.Bool.{eq-eqb, or_left, or_right, false≢true}
 use Rattle.std.proofs.lemmas.List.{take_all, length-set, map-set, get_or-map, drop_all, append-nil}
@@ -14,7 +14,7 @@ use Rattle.at_world.specs.World.{World, Map, row_of, order_in, order_of, opening
 use Rattle.at_world.specs.Attributes.{Outcome}
 use Rattle.at_world.specs.Step.{with_names, with_class, unless_unordered, if_ordered}
 use Rattle.at_world.specs.Plain.{State, AreOrders, lists_of, IsKept}
-use Rattle.at_world.proofs.Orders.{order_members_made, made_below, order_begins}
+use Rattle.at_world.proofs.Orders.{order_members_made, made_below}
 use Rattle.at_world.proofs.KeptOrders.{defined_order, AreOrders-defined, AreOrders-same_bases, same_bases-own, first_unordered-defined, first_unordered-undefined}
 
 -- the order of a class that is made with these bases, by what was gathered of them

@@ -1,5 +1,5 @@
 -- Histories of operations, and the worlds that they lead to.
-use Rattle.std.specs.Prelude.{ℕ, IsTrue, List, [], ◌∷◌}
+use Rattle.std.specs.Prelude.{IsTrue, List, [], ◌∷◌}
 use Rattle.at_value.specs.declared.operation.Op as op
 use Rattle.at_world.specs.World.{World, opening}
 use Rattle.at_world.specs.Step.{step, is_write}

@@ -4,7 +4,7 @@
 -- then what the attribute tables refuse. Every refusal leaves the world as it is.
 -- After the Python language reference, "Custom classes" and "Class instances", on what may be assigned to `__bases__`,
 -- `__class__` and `__dict__`.
-use Rattle.std.specs.Prelude.{ℕ, zero, suc, ◌==◌, nat_lt, nat_le, Bool, true, false, not, ◌||◌, ◌&&◌, List, [], ◌∷◌, ◌++◌, length, set, Option, Some, None, is_some, is_none, if◌then◌else◌, slice_get}
+use Rattle.std.specs.Prelude.{ℕ, suc, ◌==◌, nat_lt, nat_le, Bool, true, false, not, ◌||◌, ◌&&◌, List, [], ◌∷◌, ◌++◌, length, set, Option, Some, None, is_some, is_none, if◌then◌else◌, slice_get}
 use Rattle.std.specs.List.{list_any, list_all}
 use Rattle.at_value.specs.Numbers.{object, init}
 use Rattle.at_value.specs.Pairs.{value_at, with_value, without}
@@ -16,7 +16,7 @@ use Rattle.at_value.specs.declared.reply.Reply as reply
 use Rattle.at_value.specs.declared.reply.Reply.TheVariants as replies
 use Rattle.at_world.specs.declared.rows.ClassRow.{ClassRow}
 use Rattle.at_world.specs.declared.rows.Object.{Object}
-use Rattle.at_world.specs.World.{World, Map, row_of, own_of, order_in, order_of, find_in}
+use Rattle.at_world.specs.World.{World, Map, row_of, own_of, order_of, find_in}
 use Rattle.at_world.specs.Attributes.{Outcome, unchanged, get_reply, special_reply, super_reply, type_get_reply, class_of_reply, mro_reply, set_effect, del_effect}
 
 -- What an operation names

@@ -1,6 +1,6 @@
 -- Worlds: classes, objects and dictionaries, the order of a class, and what a name is in it.
 -- After the Python language reference, "Objects, values and types" and "Custom classes".
-use Rattle.std.specs.Prelude.{ℕ, zero, suc, ◌≡◌, ◌<◌, ◌≤◌, ◌⊎◌, List, [], ◌∷◌, ◌++◌, length, map, replicate, Option, Some, None, slice_index_or, slice_get, IsTrue, is_some, nat_eq, All, Contains}
+use Rattle.std.specs.Prelude.{ℕ, zero, suc, ◌≡◌, ◌<◌, ◌≤◌, ◌⊎◌, List, [], ◌∷◌, length, map, replicate, Option, Some, None, slice_index_or, IsTrue, is_some, nat_eq, All, Contains}
 use Rattle.std.specs.List.{IsDistinct}
 use Rattle.at_c3.specs.Merge.{order_of_lists}
 use Rattle.at_value.specs.Numbers.{object}

@@ -1,6 +1,6 @@
 -- What is so at the answers of a call.
-use Rattle.std.proofs.Common.{◌≡◌, ◌∙◌, ap, sym, subst, ℕ, List, [], ◌∷◌, map, length, get_or, Option, Some, None, arith, inl, inr, refl}
-use Rattle.at_source.specs.Whole.{GaveAll, GrewByFront}
+use Rattle.std.proofs.Common.{◌≡◌, ◌∙◌, ap, sym, ℕ, List, [], ◌∷◌, map, length, get_or, Some, arith, inl}
+use Rattle.at_source.specs.Whole.{GaveAll}
 use Rattle.at_script.specs.Parts.{Parts}
 use Rattle.at_script.specs.Script.{script_of}
 use Rattle.at_text.specs.Transcript.{text}
@@ -8,7 +8,7 @@ use Rattle.at_world.specs.declared.last.Ran.{Ran}
 use Rattle.attrs.specs.declared.status.Status as status
 use Rattle.attrs.specs.declared.status.Status.TheVariants as statuses
 use Rattle.attrs.specs.Run.{run_of}
-use Rattle.attrs.specs.Answers.{Ends, IsAnswer, IsTextAnswer, transcript_of, text_by, text_of}
+use Rattle.attrs.specs.Answers.{Ends, IsAnswer, IsTextAnswer, text_by, text_of}
 
 -- an answer to what was read to its end
 pub answered : (before now : Ends) (bytes : List ℕ) (s : status.Status) → GaveAll before.left now.left bytes → IsTextAnswer bytes before now s → IsAnswer before now s

@@ -1,4 +1,4 @@
-use Rattle.std.proofs.Common.{◌≡◌, ◌≤◌, ◌∷◌, ◌-◌, [], replicate, vec_capacity, length, ◌+◌}
+use Rattle.std.proofs.Common.{◌≡◌, ◌≤◌, ◌∷◌, ◌-◌, [], replicate, vec_capacity, length}
 use Rattle.at_world.specs.Plain.{lists_of}
 use Rattle.at_world.proofs.plain.first_orders.Given as goal
 

@@ -1,4 +1,4 @@
-use Rattle.std.proofs.Common.{◌≡◌, ap, sym, subst, List, ℕ, Err}
+use Rattle.std.proofs.Common.{ap, sym, subst, List, ℕ, Err}
 use Rattle.at_source.specs.Whole.{GaveAll}
 use Rattle.attrs.proofs.Answered.{answered}
 use Rattle.attrs.proofs.command.plain_text.Goals as goal

@@ -1,4 +1,4 @@
-use Rattle.std.proofs.Common.{◌≡◌, ap, sym, subst, arith, List, ℕ, Err}
+use Rattle.std.proofs.Common.{ap, subst, arith, List, ℕ, Err}
 use Rattle.at_source.specs.Whole.{GrewByFront}
 use Rattle.attrs.proofs.Small.{few_statements}
 use Rattle.attrs.proofs.Answered.{text_of_script}

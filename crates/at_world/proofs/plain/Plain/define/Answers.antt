@@ -1,4 +1,4 @@
-use Rattle.std.proofs.Common.{◌≡◌, ◌∙◌, ◌<◌, ap, sym, subst, refl, arith, length, set, None, Some, Err}
+use Rattle.std.proofs.Common.{◌≡◌, ap, sym, subst, arith, length, set, None, Some, Err}
 use Rattle.at_value.specs.declared.reply.Reply.TheVariants as replies
 use Rattle.at_world.specs.World.{row_of, order_of}
 use Rattle.at_world.specs.Step.{with_class, if_ordered}

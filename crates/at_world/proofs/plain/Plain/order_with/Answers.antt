@@ -1,7 +1,7 @@
 use Rattle.std.proofs.Common.{◌≡◌, ◌∙◌, ◌<◌, ap, sym, subst, arith, length, None, IsTrue}
 use Rattle.std.proofs.lemmas.Result.{IfOk-weaker}
 use Rattle.at_c3.specs.Merge.{contents, order_of_lists}
-use Rattle.at_world.specs.World.{World, row_of, order_of}
+use Rattle.at_world.specs.World.{row_of, order_of}
 use Rattle.at_world.specs.Step.{are_made, with_class}
 use Rattle.at_world.specs.Plain.{State, lists_of}
 use Rattle.at_world.proofs.Definitions.{gathered_order}
