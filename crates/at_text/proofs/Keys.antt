@@ -1,5 +1,5 @@
 -- Keys that sort names as the bytes of their texts do.
-use Rattle.std.proofs.Common.{◌≡◌, ◌≢◌, ◌∙◌, ap, sym, refl, ℕ, zero, suc, ◌+◌, ◌-◌, ◌<◌, ◌≤◌, ◌==◌, ltb, List, [], ◌∷◌, ◌++◌, length, get_or, set, replicate, take, arith, Bool, true, false, cond, subst, ◌⊎◌, inl, inr, unwrap_or, slice_get, slice_index, get_or-set_same, get_or-set_other, zero-add, Option, Some, map}
+use Rattle.std.proofs.Common.{◌≡◌, ◌≢◌, ◌∙◌, ap, sym, refl, ℕ, zero, suc, ◌+◌, ◌-◌, ◌<◌, ◌≤◌, List, [], ◌∷◌, ◌++◌, length, get_or, set, replicate, take, arith, false, subst, ◌⊎◌, inl, inr, unwrap_or, slice_get, slice_index, get_or-set_same, get_or-set_other, zero-add, Option, Some, map}
 use Rattle.std.specs.List.{range_with_len, Contains, All}
 use Rattle.std.specs.List.Sorted.{IsPermutation, IsSortedBy, IsNonDecreasingBy}
 use Rattle.std.specs.declared.cmp.Ordering.{Ordering}

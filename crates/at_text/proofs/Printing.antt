@@ -1,5 +1,5 @@
 -- Texts that are printed one after another.
-use Rattle.std.proofs.Common.{◌≡◌, ◌∙◌, ap, sym, refl, ℕ, zero, suc, append_assoc, ◌+◌, ◌≤◌, min, List, [], ◌∷◌, ◌++◌, take, length, get_or, ◌<◌, arith, Bool, true, false, Option, Some, None, subst, ◌⊎◌, inl, inr, unwrap_or, slice_get, append-nil, decimal}
+use Rattle.std.proofs.Common.{◌≡◌, ◌∙◌, ap, sym, refl, ℕ, zero, suc, append_assoc, ◌+◌, ◌≤◌, List, [], ◌∷◌, ◌++◌, take, length, get_or, ◌<◌, arith, true, Option, Some, None, subst, ◌⊎◌, inl, inr, unwrap_or, slice_get, append-nil, decimal}
 use Rattle.std.proofs.lemmas.List.{flat_map_more, take_more, take_all}
 use Rattle.std.specs.List.{flat_map}
 use Rattle.at_source.specs.Faults.{Rose}

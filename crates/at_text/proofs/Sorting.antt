@@ -1,6 +1,5 @@
 -- Lists that hold the same, in the same order, are the same.
-use Rattle.std.proofs.Common.{◌≡◌, ◌∙◌, ap, sym, refl, ℕ, zero, suc, ◌+◌, ◌-◌, ◌<◌, ◌≤◌, ◌==◌, List, [], ◌∷◌, length, get_or, drop, arith, Bool, true, false, cond, subst, ◌⊎◌, inl, inr, eqb-true, eq-eqb, sum_by}
-use Rattle.std.proofs.lemmas.Bool.Decides.{nat_tests}
+use Rattle.std.proofs.Common.{◌≡◌, ◌∙◌, ap, refl, ℕ, zero, suc, ◌+◌, ◌<◌, ◌≤◌, ◌==◌, List, [], ◌∷◌, length, get_or, arith, Bool, true, false, cond, subst, ◌⊎◌, inl, inr, eqb-true, eq-eqb, sum_by}
 use Rattle.std.proofs.lemmas.List.Sums.{sum_by-cons}
 use Rattle.std.specs.List.{Contains}
 use Rattle.std.specs.List.Sorted.{IsPermutation, IsNonDecreasingBy}

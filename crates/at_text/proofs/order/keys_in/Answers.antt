@@ -1,4 +1,4 @@
-use Rattle.std.proofs.Common.{arith, sym, ap, ◌∙◌, ◌≡◌, ◌<◌, ℕ, List, length, set, replicate, subst, length-set, rules}
+use Rattle.std.proofs.Common.{arith, sym, ap, ◌∙◌, ◌≡◌, ◌<◌, ℕ, List, length, replicate, subst, length-set}
 use Rattle.std.proofs.lemmas.List.{get_or_default, length-replicate}
 use Rattle.at_text.specs.Order.{AreGiven}
 use Rattle.at_text.proofs.Keys.{given_none, given_more}

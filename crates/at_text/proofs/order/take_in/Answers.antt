@@ -1,6 +1,5 @@
-use Rattle.std.proofs.Common.{◌≡◌, ◌≤◌, ◌∙◌, ◌<◌, ◌+◌, ◌++◌, ◌∷◌, [], ℕ, List, ap, sym, arith}
+use Rattle.std.proofs.Common.{◌≡◌, ◌≤◌, ◌∙◌, ◌<◌, ◌+◌, ◌++◌, ◌∷◌, [], ap, sym, arith}
 use Rattle.std.specs.Prelude.{Some, slice_get}
-use Rattle.at_value.specs.declared.value.Value.{Value}
 use Rattle.at_text.specs.Order.{keyed}
 use Rattle.at_text.proofs.Keys.{place_upto_pair, map_taken, range_taken}
 use Rattle.at_text.proofs.order.take_in.Goals as goal

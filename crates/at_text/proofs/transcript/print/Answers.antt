@@ -1,6 +1,3 @@
-use Rattle.std.proofs.Common.{ap}
-use Rattle.at_source.specs.Page.{Printed}
-use Rattle.at_text.specs.Transcript.{text}
 use Rattle.at_text.proofs.Printing.{then_prints, printed_on_empty}
 use Rattle.at_text.proofs.transcript.print.Goals as goal
 

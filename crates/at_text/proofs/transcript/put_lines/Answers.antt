@@ -1,4 +1,4 @@
-use Rattle.std.proofs.Common.{ap, length, arith}
+use Rattle.std.proofs.Common.{ap, length}
 use Rattle.std.specs.List.{flat_map}
 use Rattle.at_text.specs.Lines.{line_text}
 use Rattle.at_text.proofs.Printing.{prints_nothing, prints_number, prints_same, then_prints, then_item, all_items}

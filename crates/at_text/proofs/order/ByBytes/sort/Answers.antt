@@ -1,4 +1,4 @@
-use Rattle.std.proofs.Common.{◌≡◌, ◌∙◌, ap, sym, subst, ℕ, List, map, rules}
+use Rattle.std.proofs.Common.{◌≡◌, ◌∙◌, ap, subst, ℕ, List, map, rules}
 use Rattle.std.specs.List.Sorted.{IsPermutation}
 use Rattle.at_value.specs.declared.value.Value.{Value}
 use Rattle.at_text.specs.Order.{Order, keyed}
