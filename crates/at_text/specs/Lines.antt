@@ -112,6 +112,10 @@ path_word path.Fast = codes "fast"
 path_word (path.Slow m) = miss_word m
 path_word path.Locked = codes "locked"
 
+-- the same, between blanks
+abbrev pub path_item : paths.Path → List ℕ
+path_item way = codes " " ++ path_word way ++ codes " "
+
 -- what isn't an operation
 abbrev pub local_text : Parts → locals.Local → List ℕ
 local_text s local.Depth = codes "depth"
@@ -129,7 +133,7 @@ thread_text t = if t == 0 then codes "m" else if t == 33 then codes "f" else cod
 -- place, path, operation and reply, or a local word
 abbrev pub what_text : Parts → whats.What → List ℕ
 what_text s (what.Did place way operation r) =
-    decimal place.0 ++ codes " " ++ path_word way ++ codes " " ++ line_op_text s operation ++ codes " = " ++ line_reply_text s r
+    decimal place.0 ++ path_item way ++ line_op_text s operation ++ codes " = " ++ line_reply_text s r
 what_text s (what.Local l) = codes "- local " ++ local_text s l
 
 -- a line: its thread, its number in the thread, and what it says

@@ -1,6 +1,6 @@
 //! Printing the lines of a run.
 ghost use Rattle.std.specs.Prelude.{◌++◌, codes, decimal};
-ghost use Rattle.at_text.specs.Lines.{miss_word, path_word, local_text, thread_text, what_text, line_text};
+ghost use Rattle.at_text.specs.Lines.{miss_word, path_item, local_text, thread_text, what_text, line_text};
 ghost use Rattle.at_text.specs.Prints.{Prints};
 ghost use Rattle.at_text.specs.Values.{text_at};
 ghost use Rattle.at_world.specs.declared.line.What.TheVariants as whats;
@@ -14,30 +14,30 @@ use at_source::Sink;
 use at_value::{Miss, Path, Place};
 use at_world::{Line, LineOp, LineReply, Local, What};
 
-/// Prints why a call didn't go the fast way.
+/// Prints why a call didn't go the fast way, between blanks.
 fn put_miss<K: Sink>(out: &mut K, pen: &mut Pen, miss: &Miss)
-    ensures { Prints (K.written out.old, K.faults out.old, pen.old) (K.written out.new, K.faults out.new, pen.new) (miss_word miss.now) }
+    ensures { Prints (K.written out.old, K.faults out.old, pen.old) (K.written out.new, K.faults out.new, pen.new) (codes " " ++ miss_word miss.now ++ codes " ") }
 {
     match miss {
-        Miss::Untagged(_) => pen.write(out, b"untagged"),
-        Miss::Unlike(_) => pen.write(out, b"unlike"),
-        Miss::Writing(_, _) => pen.write(out, b"writing"),
-        Miss::Changed(_, _, _) => pen.write(out, b"changed"),
-        Miss::Odd(_, _) => pen.write(out, b"odd"),
-        Miss::Dict(_, _) => pen.write(out, b"dict"),
-        Miss::Keyless(_, _) => pen.write(out, b"keyless"),
-        Miss::Moved(_, _, _) => pen.write(out, b"moved"),
+        Miss::Untagged(_) => pen.write(out, b" untagged "),
+        Miss::Unlike(_) => pen.write(out, b" unlike "),
+        Miss::Writing(_, _) => pen.write(out, b" writing "),
+        Miss::Changed(_, _, _) => pen.write(out, b" changed "),
+        Miss::Odd(_, _) => pen.write(out, b" odd "),
+        Miss::Dict(_, _) => pen.write(out, b" dict "),
+        Miss::Keyless(_, _) => pen.write(out, b" keyless "),
+        Miss::Moved(_, _, _) => pen.write(out, b" moved "),
     }
 }
 
-/// Prints the way that a call went.
+/// Prints the way that a call went, between blanks.
 fn put_path<K: Sink>(out: &mut K, pen: &mut Pen, path: &Path)
-    ensures { Prints (K.written out.old, K.faults out.old, pen.old) (K.written out.new, K.faults out.new, pen.new) (path_word path.now) }
+    ensures { Prints (K.written out.old, K.faults out.old, pen.old) (K.written out.new, K.faults out.new, pen.new) (path_item path.now) }
 {
     match path {
-        Path::Fast => pen.write(out, b"fast"),
+        Path::Fast => pen.write(out, b" fast "),
         Path::Slow(miss) => put_miss(out, pen, miss),
-        Path::Locked => pen.write(out, b"locked"),
+        Path::Locked => pen.write(out, b" locked "),
     }
 }
 
@@ -72,17 +72,26 @@ fn put_local<K: Sink>(out: &mut K, pen: &mut Pen, names: &Script, local: &Local)
     }
 }
 
-/// Prints a thread: `m` is `main`, `f` is `finally`.
+/// Prints the thread with this number, as `t1`, and a blank.
+fn put_thread_number<K: Sink>(out: &mut K, pen: &mut Pen, thread: u8)
+    ensures { Prints (K.written out.old, K.faults out.old, pen.old) (K.written out.new, K.faults out.new, pen.new) (codes "t" ++ decimal thread ++ codes " ") }
+{
+    pen.write(out, b"t");
+    pen.number(out, u64::from(thread));
+    pen.write(out, b" ");
+}
+
+/// Prints a thread and a blank: `m` is `main`, `f` is `finally`.
 #[inline]
 fn put_thread<K: Sink>(out: &mut K, pen: &mut Pen, thread: u8)
-    ensures { Prints (K.written out.old, K.faults out.old, pen.old) (K.written out.new, K.faults out.new, pen.new) (thread_text thread) }
+    ensures { Prints (K.written out.old, K.faults out.old, pen.old) (K.written out.new, K.faults out.new, pen.new) (thread_text thread ++ codes " ") }
 {
     if thread == 0 {
-        pen.write(out, b"m");
+        pen.write(out, b"m ");
     } else if thread == 33 {
-        pen.write(out, b"f");
+        pen.write(out, b"f ");
     } else {
-        put_word_and_number(out, pen, b"t", u64::from(thread));
+        put_thread_number(out, pen, thread);
     }
 }
 
@@ -99,9 +108,7 @@ fn put_did<K: Sink>(
     ensures { Prints (K.written out.old, K.faults out.old, pen.old) (K.written out.new, K.faults out.new, pen.new) (what_text names.now (whats.Did place path.now op.now reply.now)) }
 {
     pen.number(out, place.0);
-    pen.write(out, b" ");
     put_path(out, pen, path);
-    pen.write(out, b" ");
     put_line_op(out, pen, names, op);
     pen.write(out, b" = ");
     put_line_reply(out, pen, names, reply);
@@ -125,7 +132,6 @@ pub fn put_line<K: Sink>(out: &mut K, pen: &mut Pen, names: &Script, line: &Line
     ensures { Prints (K.written out.old, K.faults out.old, pen.old) (K.written out.new, K.faults out.new, pen.new) (line_text names.now line.now) }
 {
     put_thread(out, pen, line.thread);
-    pen.write(out, b" ");
     pen.number(out, u64::from(line.number));
     pen.write(out, b" ");
     put_what(out, pen, names, &line.what);

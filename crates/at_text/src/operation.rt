@@ -1,13 +1,13 @@
 //! Printing operations.
-ghost use Rattle.std.specs.Prelude.{◌++◌, codes};
+ghost use Rattle.std.specs.Prelude.{◌++◌, codes, decimal};
 ghost use Rattle.at_text.specs.Lines.{op_text, begin_text, line_op_text};
 ghost use Rattle.at_text.specs.Prints.{Prints};
 ghost use Rattle.at_text.specs.Values.{text_at, object_text, object_attribute, class_attribute, class_item, classes_text, value_item};
 
 use crate::pen::Pen;
 use crate::value::{
-    put_bases, put_class, put_class_attribute, put_class_item, put_object, put_object_attribute,
-    put_value_item,
+    put_bases, put_class, put_class_attribute, put_class_item, put_name, put_object,
+    put_object_attribute, put_value_item,
 };
 use at_script::Script;
 use at_source::Sink;
@@ -59,7 +59,7 @@ fn put_of_class<K: Sink>(
     put_class_attribute(out, pen, names, class, name);
 }
 
-/// Prints a word with a blank behind it, and an attribute of an object.
+/// Prints a word with `#` behind it, and an attribute of an object.
 fn put_of_object<K: Sink>(
     out: &mut K,
     pen: &mut Pen,
@@ -68,10 +68,12 @@ fn put_of_object<K: Sink>(
     object: Obj,
     name: Name,
 )
-    ensures { Prints (K.written out.old, K.faults out.old, pen.old) (K.written out.new, K.faults out.new, pen.new) (word.now ++ object_attribute names.now object name) }
+    ensures { Prints (K.written out.old, K.faults out.old, pen.old) (K.written out.new, K.faults out.new, pen.new) (word.now ++ decimal object ++ codes "." ++ text_at names.now.names name) }
 {
     pen.write(out, word);
-    put_object_attribute(out, pen, names, object, name);
+    pen.number(out, u64::from(object.number()));
+    pen.write(out, b".");
+    put_name(out, pen, names, name);
 }
 
 /// Prints `put C.x V`.
@@ -100,7 +102,7 @@ fn put_set<K: Sink>(
 )
     ensures { Prints (K.written out.old, K.faults out.old, pen.old) (K.written out.new, K.faults out.new, pen.new) (codes "set " ++ object_attribute names.now object name ++ value_item names.now value.now) }
 {
-    put_of_object(out, pen, names, b"set ", object, name);
+    put_of_object(out, pen, names, b"set #", object, name);
     put_value_item(out, pen, names, value);
 }
 
@@ -152,11 +154,11 @@ pub fn put_op<K: Sink>(out: &mut K, pen: &mut Pen, names: &Script, op: &Op)
     ensures { Prints (K.written out.old, K.faults out.old, pen.old) (K.written out.new, K.faults out.new, pen.new) (op_text names.now op.now) }
 {
     match op {
-        Op::Get(object, name) => put_of_object(out, pen, names, b"get ", *object, *name),
+        Op::Get(object, name) => put_of_object(out, pen, names, b"get #", *object, *name),
         Op::Set(object, name, value) => put_set(out, pen, names, *object, *name, value),
         Op::TypeSet(class, name, value) => put_type_set(out, pen, names, *class, *name, value),
         Op::TypeGet(class, name) => put_of_class(out, pen, names, b"cget ", *class, *name),
-        Op::Del(object, name) => put_of_object(out, pen, names, b"del ", *object, *name),
+        Op::Del(object, name) => put_of_object(out, pen, names, b"del #", *object, *name),
         Op::New(class) => put_word_and_class(out, pen, names, b"new ", *class),
         Op::NewClass(class, bases) => put_with_bases(out, pen, names, b"class ", *class, bases),
         Op::SetBases(class, bases) => put_with_bases(out, pen, names, b"bases ", *class, bases),
@@ -164,7 +166,7 @@ pub fn put_op<K: Sink>(out: &mut K, pen: &mut Pen, names: &Script, op: &Op)
         Op::SetClass(object, class) => put_set_class(out, pen, names, *object, *class),
         Op::Share(object, other) => put_two_objects(out, pen, b"share ", *object, *other),
         Op::Super(class, object, name) => put_super(out, pen, names, *class, *object, *name),
-        Op::Special(object, name) => put_of_object(out, pen, names, b"special ", *object, *name),
+        Op::Special(object, name) => put_of_object(out, pen, names, b"special #", *object, *name),
         Op::ClassOf(object) => put_word_and_object(out, pen, b"classof ", *object),
         Op::Mro(class) => put_word_and_class(out, pen, names, b"mro ", *class),
     }

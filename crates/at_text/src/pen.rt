@@ -52,7 +52,11 @@ impl Pen {
     pub fn number<K: Sink>(&mut self, out: &mut K, number: u64)
         ensures { Prints (K.written out.old, K.faults out.old, self.old) (K.written out.new, K.faults out.new, self.new) (decimal number) }
     {
-        self.page.write(out, self.digits.format(number).as_bytes());
+        if number < 10 {
+            self.page.write_byte(out, b'0' + number as u8);
+        } else {
+            self.page.write(out, self.digits.format(number).as_bytes());
+        }
     }
 
     /// Prints a number that may be below zero.
