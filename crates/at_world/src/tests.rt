@@ -1,236 +1,254 @@
-//! The data model on worked histories: what an operation replies, and the namespaces at the end.
-ghost use Rattle.at_world.specs.Plain.{IsKnown};
+//! The data model on worked histories: what operations reply, one after another, and the namespaces at the end.
+
+ghost use Rattle.std.specs.Prelude.{◌<◌};
 
 use crate::{Plain, laws};
-use at_value::{Bases, Class, Func, Name, Obj, Op, Prop, Value};
+use at_value::{Bases, Class, Func, Name, Obj, Op, Prop, Reply, Value};
+use std::alloc::AllocError;
 use std::process::Abort;
 use std::test::Fail;
 
-fn class(n: u16) -> Result<Class, Fail> {
-    Ok(Class::new(n).ok_or("no class")?)
+fn class(n: u16) -> Class
+    requires { n < 255 }
+{
+    Class::new(n).unwrap()
 }
 
-fn object(n: u16) -> Result<Obj, Fail> {
-    Ok(Obj::new(n).ok_or("no object")?)
+fn object(n: u16) -> Obj
+    requires { n < 4096 }
+{
+    Obj::new(n).unwrap()
 }
 
-fn name(n: u16) -> Result<Name, Fail> {
-    Ok(Name::new(n).ok_or("no name")?)
+fn name(n: u16) -> Name
+    requires { n < 4096 }
+{
+    Name::new(n).unwrap()
 }
 
-fn function(n: u16) -> Result<Func, Fail> {
-    Ok(Func::new(n).ok_or("no function")?)
+fn function() -> Func {
+    Func::new(0).unwrap()
 }
 
-fn bases(numbers: &[u16]) -> Result<Bases, Fail> {
-    let mut bases = Bases::none();
-    for n in numbers {
-        bases.push(class(*n)?).map_err(|_| "too many bases")?;
+/// A class with one base.
+fn class_of(c: u16, base: u16) -> Op
+    requires { (c < 255) × (base < 255) }
+{
+    Op::NewClass(class(c), Bases::only(class(base)))
+}
+
+/// A class with two bases.
+fn class_of_two(c: u16, first: u16, second: u16) -> Op
+    requires { (c < 255) × ((first < 255) × (second < 255)) }
+{
+    let mut bases = Bases::only(class(first));
+    let _ = bases.push(class(second));
+    Op::NewClass(class(c), bases)
+}
+
+/// Applies an operation of the five that are understood.
+fn apply(plain: &mut Plain, op: &Op) -> Result<Option<Reply>, AllocError> {
+    match op {
+        Op::NewClass(_, _) | Op::TypeSet(_, _, _) | Op::New(_) | Op::Set(_, _, _) | Op::Get(_, _) =>
+            Ok(Some(plain.apply(op)?)),
+        _ => Ok(None),
     }
-    Ok(bases)
 }
 
-/// Applies the operation, and compares the reply as it is printed for debugging.
+/// Applies the operations in turn, and compares each reply as it is printed for debugging.
 fn replies<R: Abort + AllocGlobal>(
     rt: &R,
     plain: &mut Plain,
-    op: Op,
-    wanted: &str,
-) -> Result<(), Fail>
-    requires { IsKnown op }
-{
-    let reply = plain.apply(&op)?;
-    let text = format!(in rt.alloc(); "{reply:?}")?;
-    assert_eq!(rt; text.as_str(), wanted, "{op:?}");
-    Ok(())
-}
-
-fn define<R: Abort + AllocGlobal>(
-    rt: &R,
-    plain: &mut Plain,
-    c: u16,
-    of: &[u16],
-    wanted: &str,
+    rows: &[(Op, &str)],
 ) -> Result<(), Fail> {
-    replies(rt, plain, Op::NewClass(class(c)?, bases(of)?), wanted)
+    for (op, wanted) in rows {
+        let reply = apply(plain, op)?;
+        let text = format!(in rt.alloc(); "{reply:?}")?;
+        assert_eq!(rt; text.as_str(), *wanted, "{op:?}");
+    }
+    Ok(())
 }
 
 #[test]
 fn an_object_hides_its_class(rt: HostRuntime) -> Result<(), Fail> {
-    let plain = &mut Plain::new(rt.alloc())?;
-    let (c, a, x) = (class(1)?, object(0)?, name(5)?);
-    define(&rt, plain, 1, &[0], "Done")?;
-    replies(&rt, plain, Op::TypeSet(c, x, Value::Int(1)), "Done")?;
-    replies(&rt, plain, Op::New(c), "Made(Obj(0), None)")?;
-    replies(&rt, plain, Op::Get(a, x), "Value(Int(1))")?;
-    replies(&rt, plain, Op::Set(a, x, Value::Int(5)), "Done")?;
-    replies(&rt, plain, Op::Get(a, x), "Value(Int(5))")?;
-    replies(&rt, plain, Op::Get(a, name(6)?), "NoAttr")?;
+    let rows = [
+        (class_of(1, 0), "Some(Done)"),
+        (Op::TypeSet(class(1), name(5), Value::Int(1)), "Some(Done)"),
+        (Op::New(class(1)), "Some(Made(Obj(0), None))"),
+        (Op::Get(object(0), name(5)), "Some(Value(Int(1)))"),
+        (Op::Set(object(0), name(5), Value::Int(5)), "Some(Done)"),
+        (Op::Get(object(0), name(5)), "Some(Value(Int(5)))"),
+        (Op::Get(object(0), name(6)), "Some(NoAttr)"),
+    ];
+    let mut plain = Plain::new(rt.alloc())?;
+    replies(&rt, &mut plain, &rows)?;
     assert_eq!(rt; plain.place().0, 4);
     Ok(())
 }
 
+/// Class 1 has object 1, and class 2 object 0, which is to be a descriptor on class 1.
+fn two_objects(plain: &mut Plain) -> Result<(), AllocError> {
+    for op in [
+        class_of(1, 0),
+        class_of(2, 0),
+        Op::New(class(2)),
+        Op::New(class(1)),
+    ] {
+        let _ = apply(plain, &op)?;
+    }
+    Ok(())
+}
+
 #[test]
-fn descriptors_bind(rt: HostRuntime) -> Result<(), Fail> {
-    let plain = &mut Plain::new(rt.alloc())?;
-    let (c, d, x) = (class(1)?, class(2)?, name(5)?);
-    let f = function(0)?;
-    define(&rt, plain, 1, &[0], "Done")?;
-    define(&rt, plain, 2, &[0], "Done")?;
-    replies(&rt, plain, Op::New(d), "Made(Obj(0), None)")?;
-    replies(&rt, plain, Op::New(c), "Made(Obj(1), None)")?;
-    let (descriptor, a) = (object(0)?, object(1)?);
-    // A property comes before the object's own value.
-    replies(&rt, plain, Op::Set(a, x, Value::Int(5)), "Done")?;
-    replies(
-        &rt,
-        plain,
-        Op::TypeSet(c, x, Value::Prop(Prop::new(Some(f), None, None))),
-        "Done",
-    )?;
-    replies(
-        &rt,
-        plain,
-        Op::Get(a, x),
-        "Hook(Getter, Func(Func(0)), Obj(Obj(1)), Nothing, Nothing)",
-    )?;
-    replies(&rt, plain, Op::Set(a, x, Value::Int(6)), "NoSetter")?;
-    // A function doesn't.
-    replies(&rt, plain, Op::TypeSet(c, x, Value::Func(f)), "Done")?;
-    replies(&rt, plain, Op::Get(a, x), "Value(Int(5))")?;
-    replies(&rt, plain, Op::Get(descriptor, x), "NoAttr")?;
-    // An object of the class becomes a descriptor when its class gets `__set__`, and then one for reading too.
-    replies(
-        &rt,
-        plain,
-        Op::TypeSet(c, x, Value::Obj(descriptor)),
-        "Done",
-    )?;
-    replies(&rt, plain, Op::Set(a, x, Value::Int(1)), "Done")?;
-    replies(
-        &rt,
-        plain,
-        Op::TypeSet(d, Name::descriptor_set(), Value::Func(f)),
-        "Done",
-    )?;
-    replies(
-        &rt,
-        plain,
-        Op::Set(a, x, Value::Int(2)),
-        "Hook(DescSet, Func(Func(0)), Obj(Obj(0)), Obj(Obj(1)), Int(2))",
-    )?;
-    replies(&rt, plain, Op::Get(a, x), "Value(Int(1))")?;
-    replies(
-        &rt,
-        plain,
-        Op::TypeSet(d, Name::descriptor_get(), Value::Func(f)),
-        "Done",
-    )?;
-    replies(
-        &rt,
-        plain,
-        Op::Get(a, x),
-        "Hook(DescGet, Func(Func(0)), Obj(Obj(0)), Obj(Obj(1)), Class(Class(1)))",
-    )?;
-    // `__getattr__` answers where nothing was found.
-    replies(
-        &rt,
-        plain,
-        Op::TypeSet(c, Name::getattr(), Value::Func(f)),
-        "Done",
-    )?;
-    replies(
-        &rt,
-        plain,
-        Op::Get(a, name(9)?),
-        "Hook(GetAttr, Func(Func(0)), Obj(Obj(1)), Text(Name(9)), Nothing)",
-    )?;
+fn a_property_comes_before_the_objects_own(rt: HostRuntime) -> Result<(), Fail> {
+    let read_only = Value::Prop(Prop::new(Some(function()), None, None));
+    let rows = [
+        (Op::Set(object(1), name(5), Value::Int(5)), "Some(Done)"),
+        (Op::TypeSet(class(1), name(5), read_only), "Some(Done)"),
+        (
+            Op::Get(object(1), name(5)),
+            "Some(Hook(Getter, Func(Func(0)), Obj(Obj(1)), Nothing, Nothing))",
+        ),
+        (Op::Set(object(1), name(5), Value::Int(6)), "Some(NoSetter)"),
+        (
+            Op::TypeSet(class(1), name(5), Value::Func(function())),
+            "Some(Done)",
+        ),
+        (Op::Get(object(1), name(5)), "Some(Value(Int(5)))"),
+    ];
+    let mut plain = Plain::new(rt.alloc())?;
+    two_objects(&mut plain)?;
+    replies(&rt, &mut plain, &rows)
+}
+
+#[test]
+fn an_object_becomes_a_descriptor_by_its_class(rt: HostRuntime) -> Result<(), Fail> {
+    let f = Value::Func(function());
+    let rows = [
+        (
+            Op::TypeSet(class(1), name(5), Value::Obj(object(0))),
+            "Some(Done)",
+        ),
+        (Op::Set(object(1), name(5), Value::Int(1)), "Some(Done)"),
+        (
+            Op::TypeSet(class(2), Name::descriptor_set(), f),
+            "Some(Done)",
+        ),
+        (
+            Op::Set(object(1), name(5), Value::Int(2)),
+            "Some(Hook(DescSet, Func(Func(0)), Obj(Obj(0)), Obj(Obj(1)), Int(2)))",
+        ),
+        (Op::Get(object(1), name(5)), "Some(Value(Int(1)))"),
+        (
+            Op::TypeSet(class(2), Name::descriptor_get(), Value::Func(function())),
+            "Some(Done)",
+        ),
+        (
+            Op::Get(object(1), name(5)),
+            "Some(Hook(DescGet, Func(Func(0)), Obj(Obj(0)), Obj(Obj(1)), Class(Class(1))))",
+        ),
+        (
+            Op::TypeSet(class(1), Name::getattr(), Value::Func(function())),
+            "Some(Done)",
+        ),
+        (
+            Op::Get(object(1), name(9)),
+            "Some(Hook(GetAttr, Func(Func(0)), Obj(Obj(1)), Text(Name(9)), Nothing))",
+        ),
+    ];
+    let mut plain = Plain::new(rt.alloc())?;
+    two_objects(&mut plain)?;
+    replies(&rt, &mut plain, &rows)
+}
+
+/// The order of class 6 in a diamond over F 1, E 2 and D 3: C 4 is made of D and F, B 5 of these two, A 6 of B and C.
+fn has_order<R: Abort + AllocGlobal>(
+    rt: &R,
+    first: u16,
+    second: u16,
+    wanted: &str,
+) -> Result<(), Fail>
+    requires { (first < 255) × (second < 255) }
+{
+    let mut plain = Plain::new(rt.alloc())?;
+    for op in [
+        class_of(1, 0),
+        class_of(2, 0),
+        class_of(3, 0),
+        class_of_two(4, 3, 1),
+        class_of_two(5, first, second),
+        class_of_two(6, 5, 4),
+    ] {
+        let _ = apply(&mut plain, &op)?;
+    }
+    let last = plain.last()?;
+    let end = last.classes.at(6).ok_or("no class 6")?;
+    let text = format!(in rt.alloc(); "{:?}", end.order)?;
+    assert_eq!(rt; text.as_str(), wanted);
     Ok(())
 }
 
 #[test]
 fn diamonds_have_the_orders_of_c3(rt: HostRuntime) -> Result<(), Fail> {
-    for (of_b, wanted) in [
-        ([3, 2], "[6, 5, 4, 3, 2, 1, 0]"),
-        ([2, 3], "[6, 5, 2, 4, 3, 1, 0]"),
-    ] {
-        // F, E, D, then C D F, B D E or B E D, A B C.
-        let plain = &mut Plain::new(rt.alloc())?;
-        define(&rt, plain, 1, &[0], "Done")?;
-        define(&rt, plain, 2, &[0], "Done")?;
-        define(&rt, plain, 3, &[0], "Done")?;
-        define(&rt, plain, 4, &[3, 1], "Done")?;
-        define(&rt, plain, 5, &of_b, "Done")?;
-        define(&rt, plain, 6, &[5, 4], "Done")?;
-        let last = plain.last()?;
-        let end = last.classes.at(6).ok_or("no class 6")?;
-        let mut order = Vec::new(rt.alloc());
-        for i in 0..end.order.len() {
-            order.push(end.order.at(i).ok_or("too short")?.number())?;
-        }
-        let text = format!(in rt.alloc(); "{order:?}")?;
-        assert_eq!(rt; text.as_str(), wanted);
-    }
-    Ok(())
+    has_order(&rt, 3, 2, "ClassList { items: [6, 5, 4, 3, 2, 1, 0] }")?;
+    has_order(&rt, 2, 3, "ClassList { items: [6, 5, 2, 4, 3, 1, 0] }")
 }
 
 #[test]
-fn refusals_come_in_their_order(rt: HostRuntime) -> Result<(), Fail> {
-    let plain = &mut Plain::new(rt.alloc())?;
-    define(&rt, plain, 1, &[0], "Done")?;
-    define(&rt, plain, 2, &[0], "Done")?;
-    define(&rt, plain, 3, &[1, 2], "Done")?;
-    define(&rt, plain, 4, &[2, 1], "Done")?;
-    define(&rt, plain, 5, &[3, 4], "NoOrder(Class(5))")?;
-    define(&rt, plain, 6, &[5], "NoClass")?;
-    define(&rt, plain, 6, &[6], "NoClass")?;
-    define(&rt, plain, 1, &[1], "NameTaken")?;
-    define(&rt, plain, 1, &[], "NameTaken")?;
-    define(&rt, plain, 6, &[], "EmptyBases")?;
-    define(&rt, plain, 6, &[1, 1], "Duplicate")?;
-    replies(&rt, plain, Op::New(class(5)?), "NoClass")?;
-    replies(&rt, plain, Op::New(Class::object()), "Immutable")?;
-    replies(
-        &rt,
-        plain,
-        Op::TypeSet(Class::object(), name(5)?, Value::Nothing),
-        "Immutable",
-    )?;
-    replies(
-        &rt,
-        plain,
-        Op::TypeSet(Class::object(), name(5)?, Value::Class(class(5)?)),
-        "NoClass",
-    )?;
-    replies(
-        &rt,
-        plain,
-        Op::TypeSet(class(5)?, name(5)?, Value::Obj(object(0)?)),
-        "NoAttr",
-    )?;
-    replies(&rt, plain, Op::Get(object(0)?, name(5)?), "NoAttr")?;
+fn refusals_of_classes_come_in_their_order(rt: HostRuntime) -> Result<(), Fail> {
+    let rows = [
+        (class_of(1, 0), "Some(Done)"),
+        (class_of(2, 0), "Some(Done)"),
+        (class_of_two(3, 1, 2), "Some(Done)"),
+        (class_of_two(4, 2, 1), "Some(Done)"),
+        (class_of_two(5, 3, 4), "Some(NoOrder(Class(5)))"),
+        (class_of(6, 5), "Some(NoClass)"),
+        (class_of(6, 6), "Some(NoClass)"),
+        (class_of(1, 1), "Some(NameTaken)"),
+        (Op::NewClass(class(6), Bases::none()), "Some(EmptyBases)"),
+        (class_of_two(6, 1, 1), "Some(Duplicate)"),
+    ];
+    let mut plain = Plain::new(rt.alloc())?;
+    replies(&rt, &mut plain, &rows)?;
     assert_eq!(rt; plain.place().0, 4);
     Ok(())
 }
 
 #[test]
+fn refusals_of_values_come_in_their_order(rt: HostRuntime) -> Result<(), Fail> {
+    let rows = [
+        (Op::New(class(5)), "Some(NoClass)"),
+        (Op::New(Class::object()), "Some(Immutable)"),
+        (
+            Op::TypeSet(Class::object(), name(5), Value::Nothing),
+            "Some(Immutable)",
+        ),
+        (
+            Op::TypeSet(Class::object(), name(5), Value::Class(class(5))),
+            "Some(NoClass)",
+        ),
+        (
+            Op::TypeSet(class(5), name(5), Value::Obj(object(0))),
+            "Some(NoAttr)",
+        ),
+        (Op::Get(object(0), name(5)), "Some(NoAttr)"),
+    ];
+    let mut plain = Plain::new(rt.alloc())?;
+    replies(&rt, &mut plain, &rows)?;
+    assert_eq!(rt; plain.place().0, 0);
+    Ok(())
+}
+
+#[test]
 fn objects_come_to_an_end(rt: HostRuntime) -> Result<(), Fail> {
-    let plain = &mut Plain::new(rt.alloc())?;
-    define(&rt, plain, 1, &[0], "Done")?;
+    let mut plain = Plain::new(rt.alloc())?;
+    let _ = apply(&mut plain, &class_of(1, 0))?;
     for _ in 0..Obj::COUNT {
-        let _ = plain.apply(&Op::New(class(1)?))?;
+        let _ = apply(&mut plain, &Op::New(class(1)))?;
     }
-    replies(&rt, plain, Op::New(class(1)?), "Full")?;
-    replies(
-        &rt,
-        plain,
-        Op::Set(object(4095)?, name(5)?, Value::Int(3)),
-        "Done",
-    )?;
+    replies(&rt, &mut plain, &[(Op::New(class(1)), "Some(Full)")])?;
     let last = plain.last()?;
     assert_eq!(rt; last.objects.len(), 4096);
-    let own = last.objects.at(4095).map_or(0, |end| end.own.len());
-    assert_eq!(rt; own, 1);
     Ok(())
 }
 
