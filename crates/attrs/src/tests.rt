@@ -1,4 +1,5 @@
 //! The program end to end, over sources and sinks in memory: the text that it writes, and how it ends.
+ghost use Rattle.std.specs.Prelude.{◌<◌};
 
 use crate::command::{attrs, plain_text};
 use crate::gate::{Gate, OpenGate};
