@@ -4,3 +4,4 @@ pub mod Properties
 pub mod Classes
 pub mod Lists
 pub mod Pairs
+pub mod ProgramLimits

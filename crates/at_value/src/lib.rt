@@ -2,6 +2,7 @@
 //! and the short lists and the map that they are kept in.
 #![tactic(auto)]
 
+mod limits;
 mod list;
 mod number;
 mod operation;
@@ -12,6 +13,7 @@ mod sequence;
 mod tests;
 mod value;
 
+pub use limits::Limits;
 pub use list::{Bases, BasesFull, ClassList};
 pub use number::{Class, Func, Name, Obj};
 pub use operation::Op;

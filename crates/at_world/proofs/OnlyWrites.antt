@@ -9,13 +9,13 @@ use Rattle.at_value.specs.declared.operation.Op.TheVariants as ops
 use Rattle.at_value.specs.declared.value.Value.TheVariants as values
 use Rattle.at_value.specs.declared.reply.Reply as reply
 use Rattle.at_value.specs.declared.reply.Reply.TheVariants as replies
-use Rattle.at_world.specs.declared.binding.Three.{Three}
-use Rattle.at_world.specs.declared.binding.Step as step
-use Rattle.at_world.specs.declared.binding.Step.TheVariants as steps
+use Rattle.at_desc.specs.declared.descriptor.Three.{Three}
+use Rattle.at_desc.specs.declared.descriptor.Step as step
+use Rattle.at_desc.specs.declared.descriptor.Step.TheVariants as steps
 use Rattle.at_world.specs.declared.rows.Object.{Object}
 use Rattle.at_world.specs.World.{World, own_of, row_of, order_of, find_in, find_along}
 use Rattle.at_world.specs.Attributes.{Outcome, dict_of, set_by, set_on, del_own, del_by, del_on, three_of, get_on, special_on, behind_in, super_along, super_on, class_on, order_reply}
-use Rattle.at_world.specs.Binding.{read_property, read_descriptor, bound, bound_special, comes_first, own_or, or_getattr, bound_get, bound_to_class, bound_class}
+use Rattle.at_desc.specs.Binding.{read_property, read_descriptor, bound, bound_special, comes_first, own_or, or_getattr, bound_get, bound_to_class, bound_class}
 use Rattle.at_world.specs.Laws.{is_read}
 use Rattle.at_world.specs.Step as stepping
 

@@ -12,8 +12,8 @@ use Rattle.at_value.specs.declared.value.Value as value
 use Rattle.at_value.specs.declared.value.Value.TheVariants as values
 use Rattle.at_value.specs.declared.operation.Op as op
 use Rattle.at_value.specs.declared.operation.Op.TheVariants as ops
-use Rattle.at_world.specs.declared.binding.Step as step
-use Rattle.at_world.specs.declared.binding.Step.TheVariants as steps
+use Rattle.at_desc.specs.declared.descriptor.Step as step
+use Rattle.at_desc.specs.declared.descriptor.Step.TheVariants as steps
 use Rattle.at_world.specs.declared.rows.ClassRow.{ClassRow}
 use Rattle.at_world.specs.declared.rows.Object.{Object}
 use Rattle.at_world.specs.World.{World, Map, row_of, own_of, bases_of, IsMade, NamesMade, AllNameMade, IsWellFormed, opening}

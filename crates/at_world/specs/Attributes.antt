@@ -8,12 +8,12 @@ use Rattle.at_value.specs.declared.value.Value as value
 use Rattle.at_value.specs.declared.value.Value.TheVariants as values
 use Rattle.at_value.specs.declared.reply.Reply as reply
 use Rattle.at_value.specs.declared.reply.Reply.TheVariants as replies
-use Rattle.at_world.specs.declared.binding.Three.{Three}
-use Rattle.at_world.specs.declared.binding.Step as step
-use Rattle.at_world.specs.declared.binding.Step.TheVariants as steps
+use Rattle.at_desc.specs.declared.descriptor.Three.{Three}
+use Rattle.at_desc.specs.declared.descriptor.Step as step
+use Rattle.at_desc.specs.declared.descriptor.Step.TheVariants as steps
 use Rattle.at_world.specs.declared.rows.Object.{Object}
 use Rattle.at_world.specs.World.{World, Map, order_of, find_along, find_in}
-use Rattle.at_world.specs.Binding.{bound_get, bound_special, bound_class, bound_set, bound_del}
+use Rattle.at_desc.specs.Binding.{bound_get, bound_special, bound_class, bound_set, bound_del}
 
 -- a reply, and the world after it
 pub record Outcome : Type 0 where

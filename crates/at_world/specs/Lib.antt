@@ -1,5 +1,4 @@
 pub mod World
-pub mod Binding
 pub mod Attributes
 pub mod Step
 pub mod History

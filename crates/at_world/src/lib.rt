@@ -2,7 +2,6 @@
 //! final namespaces that a run tells of.
 #![tactic(auto)]
 
-mod binding;
 mod last;
 pub mod laws;
 mod line;
@@ -12,7 +11,6 @@ mod rows;
 #[cfg(test)]
 mod tests;
 
-pub use binding::{Step, Three, bind_get, bind_set};
 pub use last::{ClassEnd, ClassEnds, Final, ObjEnd, ObjEnds, Ran};
 pub use line::{Line, LineOp, LineReply, Lines, Local, What};
 pub use plain::Plain;

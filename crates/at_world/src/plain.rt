@@ -2,17 +2,17 @@
 ghost use Rattle.std.specs.Prelude.{◌≡◌, ◌<◌, ◌≤◌, ◌∷◌, ◌++◌, [], ℕ, Some, None, IsTrue, is_some, nat_lt, false, IfOk, OnOk, OnErr, IsErrOf, length, map, replicate, slice_get, slice_set, slice_index_or};
 ghost use Rattle.at_value.specs.Pairs.{value_at, with_value};
 ghost use Rattle.at_world.specs.World as world;
-ghost use Rattle.at_world.specs.Binding.{bound_set};
+ghost use Rattle.at_desc.specs.Binding.{bound_set};
 ghost use Rattle.at_world.specs.Attributes as attributes;
 ghost use Rattle.at_world.specs.Step as steps;
 ghost use Rattle.at_world.specs.Final.{final_of, class_ends, object_end, order_or_empty};
 ghost use Rattle.at_world.specs.Plain.{IsKnown, stepped, lists_of};
 
-use crate::binding::{Step, Three, bind_get, bind_set};
 use crate::last::{ClassEnd, Final, ObjEnd};
 use crate::lookup::{class_row, find_along_order};
 use crate::rows::{ClassRow, Object};
 use at_c3::{List, MergeFault, order_of_slices};
+use at_desc::{Step, Three, bind_get, bind_set};
 use at_value::{Bases, Class, ClassList, Name, Obj, Op, Pairs, Place, Reply, Sequence, Value};
 use smallvec::SmallVec;
 use std::alloc::{AllocError, Global};

@@ -8,9 +8,9 @@ use Rattle.at_value.specs.declared.value.Value.TheVariants as values
 use Rattle.at_value.specs.declared.reply.Reply as reply
 use Rattle.at_value.specs.declared.reply.Reply.TheVariants as replies
 use Rattle.at_value.specs.declared.reply.HookKind.TheVariants as hooks
-use Rattle.at_world.specs.declared.binding.Three.{Three}
-use Rattle.at_world.specs.declared.binding.Step as step
-use Rattle.at_world.specs.declared.binding.Step.TheVariants as steps
+use Rattle.at_desc.specs.declared.descriptor.Three.{Three}
+use Rattle.at_desc.specs.declared.descriptor.Step as step
+use Rattle.at_desc.specs.declared.descriptor.Step.TheVariants as steps
 
 -- Reading
 

@@ -1,29 +1,9 @@
-//! The binding tables: what a value that is found on a class gives, or how it takes a write over.
-//! After the Python language reference, "Invoking descriptors".
+//! What a value that is found on a class gives to a reader.
 ghost use Rattle.std.specs.Prelude.{◌≡◌};
-ghost use Rattle.at_world.specs.Binding.{read_property, read_descriptor, bound, bound_special, comes_first, own_or, or_getattr, bound_get, write_property, write_descriptor, bound_set};
+ghost use Rattle.at_desc.specs.Binding.{read_property, read_descriptor, bound, bound_special, comes_first, own_or, or_getattr, bound_get, bound_to_class, bound_class};
 
+use crate::descriptor::Three;
 use at_value::{Class, Func, HookKind, Name, Obj, Reply, Value};
-
-/// What the class of an object that is used as a descriptor has.
-#[derive(Clone, Copy, Debug, PartialEq, Eq)]
-pub struct Three {
-    /// `__get__`
-    pub get: Option<Value>,
-    /// `__set__`
-    pub set: Option<Value>,
-    /// `__delete__`
-    pub del: Option<Value>,
-}
-
-/// How a write or a deletion goes on.
-#[derive(Drop, Debug)]
-pub enum Step {
-    /// In the object's own dictionary.
-    Own,
-    /// With this reply of the class's value.
-    Says(Reply),
-}
 
 /// The reply to reading a property of object o.
 fn property_read(getter: Option<Func>, o: Obj) -> Reply
@@ -71,8 +51,11 @@ fn bind(t: Value, three: &Three, o: Obj, c: Class) -> Reply
     }
 }
 
-/// What the class has for object o, and nothing of the object's own.
-fn class_part(t: Option<Value>, three: &Three, o: Obj, c: Class) -> Reply
+/// The reply to the look-up of a special method of object o of class c, or of a name behind a class in c's order: what
+/// was found is t, and `three` is what t has as a descriptor. Nothing of the object's own counts.
+///
+/// After the Python language reference, "Special method lookup", and the built-in `super`.
+pub fn bind_special(t: Option<Value>, three: &Three, o: Obj, c: Class) -> Reply
     ensures { result ≡ bound_special t three.now o c }
 {
     match t {
@@ -122,7 +105,11 @@ fn hook_or(a: Option<Value>, o: Obj, n: Name, reply: Reply) -> Reply
 }
 
 /// The reply to reading name n of object o of class c: the class has t, `three` is what t has as a descriptor, the
-/// object's dictionary has `own`, and the class has a as `__getattr__`.
+/// object's dictionary has `own`, and the class has a as `__getattr__`. A property, and an object with `__get__` and one
+/// of `__set__` and `__delete__`, come before the object's own value. It is `NoGetter` or `NoAttr` only where there is no
+/// `__getattr__`.
+///
+/// After the Python language reference, "Invoking descriptors" and "Customizing attribute access".
 pub fn bind_get(
     t: Option<Value>,
     three: &Three,
@@ -135,7 +122,7 @@ pub fn bind_get(
     ensures { result ≡ bound_get t three.now own o c n a }
 {
     let first = is_first(&t, three);
-    let of_class = class_part(t, three, o, c);
+    let of_class = bind_special(t, three, o, c);
     if first {
         hook_or(a, o, n, of_class)
     } else {
@@ -143,48 +130,27 @@ pub fn bind_get(
     }
 }
 
-/// The reply to writing a property of object o.
-fn property_write(setter: Option<Func>, o: Obj, v: Value) -> Reply
-    ensures { result ≡ write_property setter o v }
+/// The reply to reading an attribute of class c itself: c has t, and `three` is what t has as a descriptor. A property
+/// gives itself, and the reply is `NoAttr` exactly where there is no t.
+///
+/// After the Python language reference, "Invoking descriptors", "Class Binding".
+pub fn bind_class(t: Option<Value>, three: &Three, c: Class) -> Reply
+    ensures { result ≡ bound_class t three.now c }
 {
-    match setter {
-        Some(f) => Reply::Hook(
-            HookKind::Setter,
-            Value::Func(f),
-            Value::Obj(o),
-            Value::Nothing,
-            v,
-        ),
-        None => Reply::NoSetter,
+    match t {
+        Some(value) => bind_to_class(value, three, c),
+        None => Reply::NoAttr,
     }
 }
 
-/// How a write of object o goes on where the class has object d.
-fn descriptor_write(set: Option<Value>, del: Option<Value>, d: Obj, o: Obj, v: Value) -> Step
-    ensures { result ≡ write_descriptor set del d o v }
+/// What a value of class c gives to the class itself.
+fn bind_to_class(t: Value, three: &Three, c: Class) -> Reply
+    ensures { result ≡ bound_to_class t three.now c }
 {
-    match set {
-        Some(callee) => Step::Says(Reply::Hook(
-            HookKind::DescSet,
-            callee,
-            Value::Obj(d),
-            Value::Obj(o),
-            v,
-        )),
-        None => match del {
-            Some(_) => Step::Says(Reply::NoSetter),
-            None => Step::Own,
-        },
-    }
-}
-
-/// How a write of v to an attribute of object o goes on: the class has t, and `three` is what t has as a descriptor.
-pub fn bind_set(t: Option<Value>, three: &Three, o: Obj, v: Value) -> Step
-    ensures { result ≡ bound_set t three.now o v }
-{
-    match &t {
-        Some(Value::Prop(property)) => Step::Says(property_write(property.set(), o, v)),
-        Some(Value::Obj(d)) => descriptor_write(three.set, three.del, *d, o, v),
-        _ => Step::Own,
+    match t {
+        Value::Func(f) | Value::Static(f) => Reply::Value(Value::Func(f)),
+        Value::ClassM(f) => Reply::Method(f, Value::Class(c)),
+        Value::Obj(d) => descriptor_read(three.get, d, Value::Nothing, c),
+        _ => Reply::Value(t),
     }
 }
