@@ -1,2 +1,4 @@
 mod Places
+pub mod Words
+pub mod OperationWords
 pub mod Maps

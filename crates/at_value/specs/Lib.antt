@@ -5,3 +5,8 @@ pub mod Classes
 pub mod Lists
 pub mod Pairs
 pub mod ProgramLimits
+pub mod Fields
+pub mod Words
+pub mod Reading
+pub mod Packing
+pub mod ReadingOps

@@ -6,18 +6,22 @@ mod limits;
 mod list;
 mod number;
 mod operation;
+mod packing;
 mod pairs;
 mod reply;
 mod sequence;
 #[cfg(test)]
 mod tests;
 mod value;
+mod word;
 
 pub use limits::Limits;
 pub use list::{Bases, BasesFull, ClassList};
 pub use number::{Class, Func, Name, Obj};
 pub use operation::Op;
+pub use packing::{pack, packing_laws, unpack};
 pub use pairs::Pairs;
 pub use reply::{Answer, HookKind, Miss, Path, Place, Reply};
 pub use sequence::Sequence;
 pub use value::{Prop, Value};
+pub use word::{from_word, to_word, word_laws};

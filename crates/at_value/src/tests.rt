@@ -1,4 +1,6 @@
 //! Sizes in memory, which no contract says, and each public call once.
+mod words;
+
 use crate::{
     Bases, BasesFull, Class, ClassList, Func, Name, Obj, Op, Pairs, Prop, Sequence, Value,
 };

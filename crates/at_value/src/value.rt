@@ -1,6 +1,7 @@
 //! Values.
-ghost use Rattle.std.specs.Prelude.{◌≡◌, ◌≤◌};
-ghost use Rattle.at_value.specs.Parts.{part, held};
+ghost use Rattle.std.specs.Prelude.{◌≡◌, ◌≤◌, ◌<◌, ◌+◌, ◌*◌, ◌^◌};
+ghost use Rattle.at_value.specs.Parts.{part, held, IsPart};
+ghost use Rattle.at_value.specs.Reading.{parts_at};
 
 use crate::number::{Class, Func, Name, Obj};
 use std::marker::Model;
@@ -33,6 +34,15 @@ impl Model for Prop {
 }
 
 impl Prop {
+    /// In how many bits of a number a part stands.
+    const PART_BITS: u32 = 16;
+
+    /// The lowest of those bits.
+    const PART_MASK: u64 = 0xFFFF;
+
+    /// The greatest number that holds a part.
+    const MOST: u64 = 1024;
+
     /// A property with these parts.
     pub fn new(get: Option<Func>, set: Option<Func>, del: Option<Func>) -> Prop
         ensures { result ≡ record { get = get; set = set; del = del } }
@@ -63,6 +73,34 @@ impl Prop {
         ensures { result ≡ self.del }
     {
         part_at(self.del)
+    }
+
+    /// The three parts in one number, 16 bits each: the one that reads from bit 0 on, then those that write and delete.
+    pub(crate) fn number(self) -> u64
+        ensures same { result ≡ (held self.del * 2 ^ 16 + held self.set) * 2 ^ 16 + held self.get }
+        ensures range { result < 2 ^ 48 }
+        ensures parts { IsPart self.get × IsPart self.set × IsPart self.del }
+    {
+        (u64::from(self.del) << Self::PART_BITS | u64::from(self.set)) << Self::PART_BITS
+            | u64::from(self.get)
+    }
+
+    /// The property with these parts in one number, and none exactly where the number isn't that of a property.
+    pub(crate) fn of_number(n: u64) -> Option<Prop>
+        ensures { result ≡ parts_at n }
+    {
+        let get = n & Self::PART_MASK;
+        let set = n >> Self::PART_BITS & Self::PART_MASK;
+        let del = n >> Self::PART_BITS >> Self::PART_BITS;
+        if get <= Self::MOST && set <= Self::MOST && del <= Self::MOST {
+            Some(Prop {
+                get: get as u16,
+                set: set as u16,
+                del: del as u16,
+            })
+        } else {
+            None
+        }
     }
 }
 
