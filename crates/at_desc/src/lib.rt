@@ -4,6 +4,8 @@
 
 mod descriptor;
 mod reading;
+#[cfg(test)]
+mod tests;
 mod writing;
 
 pub use descriptor::{Step, Three};

@@ -143,14 +143,14 @@ pub fn bind_class(t: Option<Value>, three: &Three, c: Class) -> Reply
     }
 }
 
-/// What a value of class c gives to the class itself.
-fn bind_to_class(t: Value, three: &Three, c: Class) -> Reply
-    ensures { result ≡ bound_to_class t three.now c }
+/// What a value of a class gives to the class itself.
+fn bind_to_class(t: Value, three: &Three, class: Class) -> Reply
+    ensures { result ≡ bound_to_class t three.now class }
 {
     match t {
         Value::Func(f) | Value::Static(f) => Reply::Value(Value::Func(f)),
-        Value::ClassM(f) => Reply::Method(f, Value::Class(c)),
-        Value::Obj(d) => descriptor_read(three.get, d, Value::Nothing, c),
+        Value::ClassM(f) => Reply::Method(f, Value::Class(class)),
+        Value::Obj(d) => descriptor_read(three.get, d, Value::Nothing, class),
         _ => Reply::Value(t),
     }
 }
