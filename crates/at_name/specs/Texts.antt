@@ -1,19 +1,35 @@
 -- Lists of distinct texts, in which a text is known by its place.
-use Rattle.std.specs.Prelude.{ℕ, ◌≡◌, ◌≤◌, List, [], ◌∷◌, ◌++◌, length, take, Option, position, bytes_eq, codes, if◌then◌else◌}
-use Rattle.std.specs.List.{IsDistinct, list_any}
+use Rattle.std.specs.Prelude.{ℕ, ◌≡◌, ◌≤◌, nat_lt, List, [], ◌∷◌, ◌++◌, length, take, Option, Some, None, position, bytes_eq, codes, if◌then◌else◌, option_and_then}
+use Rattle.std.specs.List.{IsDistinct}
+
+-- where the text stands
+abbrev pub place_of : List ℕ → List (List ℕ) → Option ℕ
+place_of text texts = position (bytes_eq text) texts
+
+-- a place that was found, or else that of a text that is added at the end where fewer than `most` stand
+abbrev pub found_or_added : ℕ → List ℕ → List (List ℕ) → Option ℕ → Option (ℕ × List (List ℕ))
+found_or_added most text texts (Some place) = Some (place, texts)
+found_or_added most text texts None =
+    if nat_lt (length texts) most then Some (length texts, texts ++ text ∷ []) else None
+
+-- the place of the text, and the texts with it
+abbrev pub interned : ℕ → List ℕ → List (List ℕ) → Option (ℕ × List (List ℕ))
+interned most text texts = found_or_added most text texts (place_of text texts)
+
+-- the texts with all of these, each added at the end where it isn't there
+abbrev pub all_interned : ℕ → List (List ℕ) → List (List ℕ) → Option (List (List ℕ))
+all_interned most texts [] = Some texts
+all_interned most texts (text ∷ more) = option_and_then (λ found. all_interned most found.1 more) (interned most text texts)
+
+-- no text twice, and at most so many texts
+pub record AreDistinct (most : ℕ) (texts : List (List ℕ)) : Type 0 where
+  pub distinct : IsDistinct bytes_eq texts
+  pub bounded : length texts ≤ most
 
 -- The special names that attribute access looks up (Python language reference, sections 3.3.2 and 3.3.1), in the order
 -- of their numbers.
 abbrev pub special_texts : List (List ℕ)
 special_texts = codes "__get__" ∷ codes "__set__" ∷ codes "__delete__" ∷ codes "__getattr__" ∷ codes "__init__" ∷ []
-
--- the number of a text: its place in the list
-abbrev pub number_of : List ℕ → List (List ℕ) → Option ℕ
-number_of text texts = position (bytes_eq text) texts
-
--- the list with the text: as it is where the text stands, and else with the text at the end
-abbrev pub with_text : List ℕ → List (List ℕ) → List (List ℕ)
-with_text text texts = if list_any (bytes_eq text) texts then texts else texts ++ text ∷ []
 
 -- What a table of names is: the special names first, no text twice, and no more texts than there are names.
 pub record AreNames (texts : List (List ℕ)) : Type 0 where
