@@ -1,8 +1,8 @@
 -- What is kept, as classes are made and get names.
-use Rattle.std.proofs.Common.{◌≡◌, ◌∙◌, ap, sym, refl, ℕ, zero, suc, ◌<◌, ◌≤◌, ◌∷◌, ◌++◌, length, get_or, set, take, drop, replicate, List, [], map, Option, Some, None, true, false, is_some, IsTrue, ◌==◌, lit<, arith}
+use Rattle.std.proofs.Common.{◌≡◌, ◌∙◌, ap, sym, refl, ℕ, zero, suc, ◌<◌, ◌∷◌, ◌++◌, length, get_or, set, take, drop, replicate, List, [], map, Option, Some, None, true, is_some, IsTrue, ◌==◌, lit<, arith}
 use Rattle.std.specs.List.{list_all}
 use Rattle.std.proofs.lemmas.Bool.{eq-eqb, or_left, or_right, false≢true}
-use Rattle.std.proofs.lemmas.List.{take_all, length-set, map-set, get_or-map, drop_all, append-nil}
+use Rattle.std.proofs.lemmas.List.{take_all, length-set, length-map, map-set, get_or-map, drop_all, append-nil}
 use Rattle.smallvec.specs.SmallVec.{SmallVec}
 use Rattle.at_c3.specs.Merge.{order_of_lists}
 use Rattle.at_c3.proofs.NumberLemmas.{has}
@@ -17,15 +17,13 @@ use Rattle.at_world.specs.Plain.{State, AreOrders, lists_of, IsKept}
 use Rattle.at_world.proofs.Orders.{order_members_made, made_below}
 use Rattle.at_world.proofs.KeptOrders.{defined_order, AreOrders-defined, AreOrders-same_bases, same_bases-own, first_unordered-defined, first_unordered-undefined}
 
--- the order of a class that is made with these bases, by what was gathered of them
-pub gathered_order : (classes : List (Option ClassRow)) (orders : List (List ℕ)) (c n i : ℕ) (bases items numbers : List ℕ) (found : List (List ℕ))
+-- the order of a class that is made with these bases, by the orders that are kept
+pub gathered_order : (classes : List (Option ClassRow)) (orders lists : List (List ℕ)) (c n : ℕ) (bases items : List ℕ)
     → AreOrders classes orders → row_of classes c ≡ None → c < length classes → IsTrue (list_all (λ b. is_some (row_of classes b)) bases)
-    → n ≡ c → items ≡ bases → length items ≤ i → numbers ≡ take i items → found ≡ map (λ b. get_or orders b []) (take i items)
-    → order_in (set classes c (Some (record { bases = bases; own = [] }))) c ≡ order_of_lists n numbers found
-gathered_order classes orders c n i bases items numbers found are free below made is_c are_bases past all_numbers all_found =
-    let whole : take i items ≡ bases = take_all i items past ∙ are_bases in
-    defined_order classes orders c (record { bases = bases; own = [] }) are free below made
-    ∙ rw (is_c, all_numbers, all_found, whole) refl
+    → n ≡ c → items ≡ bases → lists ≡ orders
+    → order_in (set classes c (Some (record { bases = bases; own = [] }))) c ≡ order_of_lists n items (map (λ b. get_or lists b []) items)
+gathered_order classes orders lists c n bases items are free below made is_c are_bases are_lists =
+    defined_order classes orders c (record { bases = bases; own = [] }) are free below made ∙ rw (is_c, are_bases, are_lists) refl
 
 -- the new class and its order are kept beside the others
 pub kept_defined : (classes : List (Option ClassRow)) (orders : List (SmallVec ℕ)) (objects : List Object) (dicts : List Map) (c i : ℕ) (bases : List ℕ) (own : Map) (order : SmallVec ℕ)
@@ -106,22 +104,25 @@ kept_opening classes orders objects dicts are_classes are_orders no_objects no_d
       named = refl;
     })
 
--- the numbers of an order that is kept are those of classes
+-- the numbers of an order are those of classes
 are_classes_from_below : (order : List ℕ) → ((d : ℕ) → has d order ≡ true → d < 255) → AreClasses order
 are_classes_from_below [] below i = lit< tt
 are_classes_from_below (x ∷ xs) below zero = below x (or_left (x == x) (has x xs) (eq-eqb x x refl))
 are_classes_from_below (x ∷ xs) below (suc i) = are_classes_from_below xs (λ d at. below d (or_right (x == d) (has d xs) at)) i
 
-pub kept_order_numbers : (classes : List (Option ClassRow)) (orders : List (List ℕ)) (objects : List Object) (dicts : List Map) (c : ℕ) → IsKept classes orders objects dicts → IsTrue (is_some (row_of classes c))
-    → AreClasses (get_or orders c [])
-kept_order_numbers classes orders objects dicts c kept made =
-    are_classes_from_below (get_or orders c []) (λ d at.
-    let below = made_below classes d (order_members_made (suc (length classes)) classes c d (get_or orders c []) (kept.orders_are c made) at) in
-    omega (arith, below, kept.numbered))
+pub order_numbers : (classes : List (Option ClassRow)) (c : ℕ) (order : List ℕ) → length classes ≡ 255 → order_in classes c ≡ Some order → AreClasses order
+order_numbers classes c order long is =
+    are_classes_from_below order (λ d at.
+    let below = made_below classes d (order_members_made (suc (length classes)) classes c d order is at) in
+    omega (arith, below, long))
 
 -- a list that is kept, read at an index
 pub list_at : (orders : List (SmallVec ℕ)) (i : ℕ) (list d : SmallVec ℕ) → i < length orders → list ≡ get_or orders i d → list.items ≡ get_or (lists_of orders) i []
 list_at orders i list d within is = ap (λ (l : SmallVec ℕ). l.items) is ∙ sym (get_or-map (λ (l : SmallVec ℕ). l.items) orders i d [] within)
+
+-- lists with the same contents are as many
+pub length-lists : (xs ys : List (SmallVec ℕ)) → lists_of xs ≡ lists_of ys → length xs ≡ length ys
+length-lists xs ys same = sym (length-map xs (λ (l : SmallVec ℕ). l.items)) ∙ ap length same ∙ length-map ys (λ (l : SmallVec ℕ). l.items)
 
 -- a vector whose slice was written has what the slice has
 pub refilled : {X : Type 0} (n : ℕ) (was now : List X) → n ≡ length was → length now ≡ length was → take n (now ++ drop (length now) was) ≡ now

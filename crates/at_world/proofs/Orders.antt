@@ -95,14 +95,15 @@ orders_kept orders bases rest merged =
 
 -- What leaves an order as it is
 
--- the orders of bases that are shorter decide
-pub order_of_row-kept : (f g : ℕ → Option (List ℕ)) (c : ℕ) (row_there : Option ClassRow) (order : List ℕ) → order_of_row f c row_there ≡ Some order
-    → ((b : ℕ) (p : List ℕ) → f b ≡ Some p → length p < length order → g b ≡ Some p) → order_of_row g c row_there ≡ Some order
-order_of_row-kept f g c row_there order is kept =
+-- the orders of bases that are parts of the order decide, and they are shorter
+pub order_of_row-kept_parts : (f g : ℕ → Option (List ℕ)) (c : ℕ) (row_there : Option ClassRow) (order : List ℕ) → order_of_row f c row_there ≡ Some order
+    → ((b : ℕ) (p : List ℕ) → f b ≡ Some p → IsSubsequence p order → length p < length order → g b ≡ Some p) → order_of_row g c row_there ≡ Some order
+order_of_row-kept_parts f g c row_there order is kept =
     let made = parts_of f c row_there order is in
     let longer : length order ≡ suc (length made.rest) = ap length made.whole in
+    let part_of : (p : List ℕ) → IsSubsequence p made.rest → IsSubsequence p order = λ p part. subst (IsSubsequence p) (sym made.whole) (subsequence-more p c made.rest part) in
     let shorter : (p : List ℕ) → IsSubsequence p made.rest → length p < length order = λ p part. omega (arith, longer, subsequence-length p made.rest part) in
-    let keeps : (b : ℕ) (p : List ℕ) → f b ≡ Some p → IsSubsequence p made.rest → g b ≡ Some p = λ b p at part. kept b p at (shorter p part) in
+    let keeps : (b : ℕ) (p : List ℕ) → f b ≡ Some p → IsSubsequence p made.rest → g b ≡ Some p = λ b p at part. kept b p at (part_of p part) (shorter p part) in
     whole_of g c row_there order (record {
       row = made.row;
       orders = made.orders;
@@ -112,6 +113,11 @@ order_of_row-kept f g c row_there order is kept =
       merged = made.merged;
       whole = made.whole;
     })
+
+-- the orders of bases that are shorter decide
+pub order_of_row-kept : (f g : ℕ → Option (List ℕ)) (c : ℕ) (row_there : Option ClassRow) (order : List ℕ) → order_of_row f c row_there ≡ Some order
+    → ((b : ℕ) (p : List ℕ) → f b ≡ Some p → length p < length order → g b ≡ Some p) → order_of_row g c row_there ≡ Some order
+order_of_row-kept f g c row_there order is kept = order_of_row-kept_parts f g c row_there order is (λ b p at _ shorter. kept b p at shorter)
 
 -- more steps than are enough change nothing
 pub order_within-more : (n m : ℕ) (classes : List (Option ClassRow)) (c : ℕ) (order : List ℕ) → order_within n classes c ≡ Some order
@@ -196,7 +202,8 @@ order_begins (suc n) classes c order is =
     let made = parts_of (order_within n classes) c (row_of classes c) order is in
     (made.rest, made.whole)
 
-has_own_class : (n : ℕ) (classes : List (Option ClassRow)) (c : ℕ) (order : List ℕ) → order_within n classes c ≡ Some order → has c order ≡ true
+-- and has it
+pub has_own_class : (n : ℕ) (classes : List (Option ClassRow)) (c : ℕ) (order : List ℕ) → order_within n classes c ≡ Some order → has c order ≡ true
 has_own_class n classes c order is =
     let begins = order_begins n classes c order is in
     ap (has c) begins.1 ∙ or_left (c == c) (has c begins.0) (eq-eqb c c refl)

@@ -4,4 +4,12 @@ pub mod Step
 pub mod History
 pub mod Final
 pub mod Plain
+pub mod Rebasing
 pub mod Laws
+pub mod Lines
+pub mod Legal
+pub mod Kept
+pub mod Serial
+pub mod HistoryLaws
+pub mod LineExamples
+pub mod KeptExamples

@@ -1,10 +1,9 @@
 -- What the plain data model keeps: a world, and how many writes led to it.
-use Rattle.std.specs.Prelude.{ℕ, ◌≡◌, ◌+◌, ◌-◌, ◌^◌, ◌≤◌, min, length, map, List, [], Option, Some, if◌then◌else◌, IsTrue, is_some, slice_index_or}
+use Rattle.std.specs.Prelude.{ℕ, ◌≡◌, ◌+◌, ◌-◌, ◌^◌, ◌≤◌, min, length, map, List, [], ◌∷◌, Option, Some, None, if◌then◌else◌, IsTrue, is_some, slice_index_or}
 use Rattle.smallvec.specs.SmallVec.{SmallVec}
 use Rattle.at_value.specs.declared.operation.Op as op
-use Rattle.at_value.specs.declared.operation.Op.TheVariants as ops
 use Rattle.at_world.specs.declared.rows.ClassRow.{ClassRow}
-use Rattle.at_world.specs.World.{World, Map, row_of, order_in}
+use Rattle.at_world.specs.World.{World, Map, row_of, all_orders, joined, order_in}
 use Rattle.at_world.specs.Attributes.{Outcome}
 use Rattle.at_world.specs.Step.{step, is_done}
 use Rattle.at_world.specs.declared.rows.Object.{Object}
@@ -39,11 +38,11 @@ pub record IsKept (classes : List (Option ClassRow)) (orders : List (List ℕ)) 
   pub few : length objects ≤ 4096
   pub named : length dicts ≡ length objects
 
--- an operation that is understood
-abbrev pub IsKnown : op.Op → Type 0
-IsKnown (ops.NewClass c bases) = Unit {0}
-IsKnown (ops.TypeSet c n v) = Unit {0}
-IsKnown (ops.New c) = Unit {0}
-IsKnown (ops.Set o n v) = Unit {0}
-IsKnown (ops.Get o n) = Unit {0}
-IsKnown operation = ⊥
+-- the order that a list stands for: none where it is empty, since an order has its own class
+abbrev pub order_or_none : List ℕ → Option (List ℕ)
+order_or_none [] = None
+order_or_none (c ∷ cs) = Some (c ∷ cs)
+
+-- the order of a class with these bases, by the lists of the classes
+abbrev pub order_by : List (List ℕ) → ℕ → List ℕ → Option (List ℕ)
+order_by orders c bases = joined c bases (all_orders (map (λ b. order_or_none (slice_index_or orders b [])) bases))

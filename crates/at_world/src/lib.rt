@@ -5,6 +5,7 @@
 mod last;
 pub mod laws;
 mod line;
+pub mod line_examples;
 mod lookup;
 mod plain;
 mod rows;

@@ -3,6 +3,7 @@ ghost use Rattle.std.specs.Prelude.{◌≡◌, is_some};
 ghost use Rattle.std.specs.Option.{option_copied};
 ghost use Rattle.at_value.specs.Pairs.{value_at};
 ghost use Rattle.at_world.specs.World.{row_of, own_of, find_along};
+ghost use Rattle.at_world.specs.Attributes as attributes;
 
 use crate::rows::ClassRow;
 use at_value::{Name, Value};
@@ -18,7 +19,7 @@ pub fn class_row(classes: &[Option<ClassRow>], c: u16) -> Option<&ClassRow>
 }
 
 /// What the class has itself under the name.
-fn own_value(classes: &[Option<ClassRow>], c: u16, n: Name) -> Option<Value>
+pub fn own_value(classes: &[Option<ClassRow>], c: u16, n: Name) -> Option<Value>
     ensures { result ≡ value_at n (own_of (row_of classes.now c)) }
 {
     match class_row(classes, c) {
@@ -34,6 +35,18 @@ pub fn find_along_order(classes: &[Option<ClassRow>], order: &[u16], n: Name) ->
     for c in order {
         if let Some(value) = own_value(classes, *c, n) {
             return Some(value);
+        }
+    }
+    None
+}
+
+/// The numbers behind k in an order, where k stands in it.
+pub fn behind(k: u16, order: &[u16]) -> Option<&[u16]>
+    ensures { option_copied result ≡ attributes.behind k order.now }
+{
+    for i in 0..order.len() {
+        if order[i] == k {
+            return Some(&order[i + 1..]);
         }
     }
     None

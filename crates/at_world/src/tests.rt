@@ -2,6 +2,9 @@
 
 ghost use Rattle.std.specs.Prelude.{◌<◌};
 
+mod histories;
+mod worked;
+
 use crate::{Plain, laws};
 use at_value::{Bases, Class, Func, Name, Obj, Op, Prop, Reply, Value};
 use std::alloc::AllocError;
@@ -46,15 +49,6 @@ fn class_of_two(c: u16, first: u16, second: u16) -> Op
     Op::NewClass(class(c), bases)
 }
 
-/// Applies an operation of the five that are understood.
-fn apply(plain: &mut Plain, op: &Op) -> Result<Option<Reply>, AllocError> {
-    match op {
-        Op::NewClass(_, _) | Op::TypeSet(_, _, _) | Op::New(_) | Op::Set(_, _, _) | Op::Get(_, _) =>
-            Ok(Some(plain.apply(op)?)),
-        _ => Ok(None),
-    }
-}
-
 /// Applies the operations in turn, and compares each reply as it is printed for debugging.
 fn replies<R: Abort + AllocGlobal>(
     rt: &R,
@@ -62,7 +56,7 @@ fn replies<R: Abort + AllocGlobal>(
     rows: &[(Op, &str)],
 ) -> Result<(), Fail> {
     for (op, wanted) in rows {
-        let reply = apply(plain, op)?;
+        let reply = plain.apply(op)?;
         let text = format!(in rt.alloc(); "{reply:?}")?;
         assert_eq!(rt; text.as_str(), *wanted, "{op:?}");
     }
@@ -72,13 +66,13 @@ fn replies<R: Abort + AllocGlobal>(
 #[test]
 fn an_object_hides_its_class(rt: HostRuntime) -> Result<(), Fail> {
     let rows = [
-        (class_of(1, 0), "Some(Done)"),
-        (Op::TypeSet(class(1), name(5), Value::Int(1)), "Some(Done)"),
-        (Op::New(class(1)), "Some(Made(Obj(0), None))"),
-        (Op::Get(object(0), name(5)), "Some(Value(Int(1)))"),
-        (Op::Set(object(0), name(5), Value::Int(5)), "Some(Done)"),
-        (Op::Get(object(0), name(5)), "Some(Value(Int(5)))"),
-        (Op::Get(object(0), name(6)), "Some(NoAttr)"),
+        (class_of(1, 0), "Done"),
+        (Op::TypeSet(class(1), name(5), Value::Int(1)), "Done"),
+        (Op::New(class(1)), "Made(Obj(0), None)"),
+        (Op::Get(object(0), name(5)), "Value(Int(1))"),
+        (Op::Set(object(0), name(5), Value::Int(5)), "Done"),
+        (Op::Get(object(0), name(5)), "Value(Int(5))"),
+        (Op::Get(object(0), name(6)), "NoAttr"),
     ];
     let mut plain = Plain::new(rt.alloc())?;
     replies(&rt, &mut plain, &rows)?;
@@ -94,7 +88,7 @@ fn two_objects(plain: &mut Plain) -> Result<(), AllocError> {
         Op::New(class(2)),
         Op::New(class(1)),
     ] {
-        let _ = apply(plain, &op)?;
+        let _ = plain.apply(&op)?;
     }
     Ok(())
 }
@@ -103,18 +97,18 @@ fn two_objects(plain: &mut Plain) -> Result<(), AllocError> {
 fn a_property_comes_before_the_objects_own(rt: HostRuntime) -> Result<(), Fail> {
     let read_only = Value::Prop(Prop::new(Some(function()), None, None));
     let rows = [
-        (Op::Set(object(1), name(5), Value::Int(5)), "Some(Done)"),
-        (Op::TypeSet(class(1), name(5), read_only), "Some(Done)"),
+        (Op::Set(object(1), name(5), Value::Int(5)), "Done"),
+        (Op::TypeSet(class(1), name(5), read_only), "Done"),
         (
             Op::Get(object(1), name(5)),
-            "Some(Hook(Getter, Func(Func(0)), Obj(Obj(1)), Nothing, Nothing))",
+            "Hook(Getter, Func(Func(0)), Obj(Obj(1)), Nothing, Nothing)",
         ),
-        (Op::Set(object(1), name(5), Value::Int(6)), "Some(NoSetter)"),
+        (Op::Set(object(1), name(5), Value::Int(6)), "NoSetter"),
         (
             Op::TypeSet(class(1), name(5), Value::Func(function())),
-            "Some(Done)",
+            "Done",
         ),
-        (Op::Get(object(1), name(5)), "Some(Value(Int(5)))"),
+        (Op::Get(object(1), name(5)), "Value(Int(5))"),
     ];
     let mut plain = Plain::new(rt.alloc())?;
     two_objects(&mut plain)?;
@@ -127,33 +121,30 @@ fn an_object_becomes_a_descriptor_by_its_class(rt: HostRuntime) -> Result<(), Fa
     let rows = [
         (
             Op::TypeSet(class(1), name(5), Value::Obj(object(0))),
-            "Some(Done)",
+            "Done",
         ),
-        (Op::Set(object(1), name(5), Value::Int(1)), "Some(Done)"),
-        (
-            Op::TypeSet(class(2), Name::descriptor_set(), f),
-            "Some(Done)",
-        ),
+        (Op::Set(object(1), name(5), Value::Int(1)), "Done"),
+        (Op::TypeSet(class(2), Name::descriptor_set(), f), "Done"),
         (
             Op::Set(object(1), name(5), Value::Int(2)),
-            "Some(Hook(DescSet, Func(Func(0)), Obj(Obj(0)), Obj(Obj(1)), Int(2)))",
+            "Hook(DescSet, Func(Func(0)), Obj(Obj(0)), Obj(Obj(1)), Int(2))",
         ),
-        (Op::Get(object(1), name(5)), "Some(Value(Int(1)))"),
+        (Op::Get(object(1), name(5)), "Value(Int(1))"),
         (
             Op::TypeSet(class(2), Name::descriptor_get(), Value::Func(function())),
-            "Some(Done)",
+            "Done",
         ),
         (
             Op::Get(object(1), name(5)),
-            "Some(Hook(DescGet, Func(Func(0)), Obj(Obj(0)), Obj(Obj(1)), Class(Class(1))))",
+            "Hook(DescGet, Func(Func(0)), Obj(Obj(0)), Obj(Obj(1)), Class(Class(1)))",
         ),
         (
             Op::TypeSet(class(1), Name::getattr(), Value::Func(function())),
-            "Some(Done)",
+            "Done",
         ),
         (
             Op::Get(object(1), name(9)),
-            "Some(Hook(GetAttr, Func(Func(0)), Obj(Obj(1)), Text(Name(9)), Nothing))",
+            "Hook(GetAttr, Func(Func(0)), Obj(Obj(1)), Text(Name(9)), Nothing)",
         ),
     ];
     let mut plain = Plain::new(rt.alloc())?;
@@ -179,7 +170,7 @@ fn has_order<R: Abort + AllocGlobal>(
         class_of_two(5, first, second),
         class_of_two(6, 5, 4),
     ] {
-        let _ = apply(&mut plain, &op)?;
+        let _ = plain.apply(&op)?;
     }
     let last = plain.last()?;
     let end = last.classes.at(6).ok_or("no class 6")?;
@@ -197,16 +188,16 @@ fn diamonds_have_the_orders_of_c3(rt: HostRuntime) -> Result<(), Fail> {
 #[test]
 fn refusals_of_classes_come_in_their_order(rt: HostRuntime) -> Result<(), Fail> {
     let rows = [
-        (class_of(1, 0), "Some(Done)"),
-        (class_of(2, 0), "Some(Done)"),
-        (class_of_two(3, 1, 2), "Some(Done)"),
-        (class_of_two(4, 2, 1), "Some(Done)"),
-        (class_of_two(5, 3, 4), "Some(NoOrder(Class(5)))"),
-        (class_of(6, 5), "Some(NoClass)"),
-        (class_of(6, 6), "Some(NoClass)"),
-        (class_of(1, 1), "Some(NameTaken)"),
-        (Op::NewClass(class(6), Bases::none()), "Some(EmptyBases)"),
-        (class_of_two(6, 1, 1), "Some(Duplicate)"),
+        (class_of(1, 0), "Done"),
+        (class_of(2, 0), "Done"),
+        (class_of_two(3, 1, 2), "Done"),
+        (class_of_two(4, 2, 1), "Done"),
+        (class_of_two(5, 3, 4), "NoOrder(Class(5))"),
+        (class_of(6, 5), "NoClass"),
+        (class_of(6, 6), "NoClass"),
+        (class_of(1, 1), "NameTaken"),
+        (Op::NewClass(class(6), Bases::none()), "EmptyBases"),
+        (class_of_two(6, 1, 1), "Duplicate"),
     ];
     let mut plain = Plain::new(rt.alloc())?;
     replies(&rt, &mut plain, &rows)?;
@@ -217,21 +208,21 @@ fn refusals_of_classes_come_in_their_order(rt: HostRuntime) -> Result<(), Fail> 
 #[test]
 fn refusals_of_values_come_in_their_order(rt: HostRuntime) -> Result<(), Fail> {
     let rows = [
-        (Op::New(class(5)), "Some(NoClass)"),
-        (Op::New(Class::object()), "Some(Immutable)"),
+        (Op::New(class(5)), "NoClass"),
+        (Op::New(Class::object()), "Immutable"),
         (
             Op::TypeSet(Class::object(), name(5), Value::Nothing),
-            "Some(Immutable)",
+            "Immutable",
         ),
         (
             Op::TypeSet(Class::object(), name(5), Value::Class(class(5))),
-            "Some(NoClass)",
+            "NoClass",
         ),
         (
             Op::TypeSet(class(5), name(5), Value::Obj(object(0))),
-            "Some(NoAttr)",
+            "NoAttr",
         ),
-        (Op::Get(object(0), name(5)), "Some(NoAttr)"),
+        (Op::Get(object(0), name(5)), "NoAttr"),
     ];
     let mut plain = Plain::new(rt.alloc())?;
     replies(&rt, &mut plain, &rows)?;
@@ -242,11 +233,11 @@ fn refusals_of_values_come_in_their_order(rt: HostRuntime) -> Result<(), Fail> {
 #[test]
 fn objects_come_to_an_end(rt: HostRuntime) -> Result<(), Fail> {
     let mut plain = Plain::new(rt.alloc())?;
-    let _ = apply(&mut plain, &class_of(1, 0))?;
+    let _ = plain.apply(&class_of(1, 0))?;
     for _ in 0..Obj::COUNT {
-        let _ = apply(&mut plain, &Op::New(class(1)))?;
+        let _ = plain.apply(&Op::New(class(1)))?;
     }
-    replies(&rt, &mut plain, &[(Op::New(class(1)), "Some(Full)")])?;
+    replies(&rt, &mut plain, &[(Op::New(class(1)), "Full")])?;
     let last = plain.last()?;
     assert_eq!(rt; last.objects.len(), 4096);
     Ok(())

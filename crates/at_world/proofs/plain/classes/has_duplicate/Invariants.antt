@@ -1,6 +1,6 @@
 use Rattle.std.proofs.Common.{◌≡◌, drop}
 use Rattle.at_world.specs.Step.{has_repeat}
-use Rattle.at_world.proofs.plain.has_duplicate.Given as goal
+use Rattle.at_world.proofs.plain.classes.has_duplicate.Given as goal
 
 -- the classes that are left give the answer
 abbrev pub invariant-loop-i : goal.invariant-loop-i

@@ -1,11 +1,11 @@
 use Rattle.std.proofs.Common.{◌≡◌, map, take, get_or, []}
 use Rattle.at_c3.specs.Merge.{contents}
 use Rattle.at_world.specs.Plain.{lists_of}
-use Rattle.at_world.proofs.plain.Plain.order_with.Given as goal
+use Rattle.at_world.proofs.plain.orders.order_from.Given as goal
 
 -- the bases so far, and their orders
 abbrev pub invariant-loop-base : goal.invariant-loop-base
 invariant-loop-base l = record {
-  numbers : l.numbers.items ≡ take l.base-index l.base-items;
-  orders : contents l.orders.items ≡ map (λ b. get_or (lists_of l.self-inside.orders.items) b []) (take l.base-index l.base-items);
+  numbers : l.numbers.items ≡ take l.base-index l.bases;
+  found : contents l.found.items ≡ map (λ b. get_or (lists_of l.orders) b []) (take l.base-index l.bases);
 }

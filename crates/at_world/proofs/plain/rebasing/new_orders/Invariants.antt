@@ -1,0 +1,11 @@
+use Rattle.std.proofs.Common.{◌≡◌, length}
+use Rattle.at_world.specs.Plain.{lists_of}
+use Rattle.at_world.specs.Rebasing.{rebased, AreRenewed}
+use Rattle.at_world.proofs.plain.rebasing.new_orders.Given as goal
+
+-- the rounds so far
+abbrev pub invariant-loop-long : goal.invariant-loop-long
+invariant-loop-long l = record {
+  renewed : AreRenewed (rebased l.classes l.c l.bases) l.classes (lists_of l.was) l.c l.long 0 (lists_of l.orders.items);
+  numbered : length l.orders.items ≡ 255;
+}

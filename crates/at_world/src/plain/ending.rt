@@ -1,0 +1,71 @@
+//! The final namespaces of the world that is kept.
+ghost use Rattle.std.specs.Prelude.{◌≡◌, IfOk, Some, map};
+ghost use Rattle.at_world.specs.World as world;
+ghost use Rattle.at_world.specs.Final.{final_of, class_ends, object_end, order_or_empty};
+
+use super::Plain;
+use crate::last::{ClassEnd, Final, ObjEnd};
+use crate::rows::ClassRow;
+use at_value::{Class, ClassList, Pairs, Sequence};
+use std::alloc::AllocError;
+
+impl Plain {
+    /// The final namespaces.
+    pub fn last(&self) -> Result<Final, AllocError>
+        ensures { IfOk result (λ last. last ≡ final_of self.now.world) }
+    {
+        let classes = Sequence::of(self.class_ends()?);
+        let objects = Sequence::of(self.object_ends()?);
+        Ok(Final { classes, objects })
+    }
+
+    /// The classes that are made, by number.
+    fn class_ends(&self) -> Result<Vec<ClassEnd>, AllocError>
+        ensures { IfOk result (λ ends. ends.items ≡ class_ends self.now.world 0 self.now.world.classes) }
+    {
+        let mut ends = Vec::new(self.alloc);
+        for i in 0..self.classes.len() {
+            let Some(c) = Class::new(i as u16) else {
+                return Ok(ends);
+            };
+            if let Some(row) = &self.classes[i] {
+                ends.push(self.class_end(c, row)?)?;
+            }
+        }
+        Ok(ends)
+    }
+
+    /// A class that is made, whose row this is.
+    fn class_end(&self, c: Class, row: &ClassRow) -> Result<ClassEnd, AllocError>
+        requires { world.row_of self.now.world.classes c ≡ Some row.now }
+        ensures { IfOk result (λ end. end ≡ record { class = c; order = order_or_empty (world.order_of self.now.world c); own = row.now.own }) }
+    {
+        let order = match self.order_list(c)? {
+            Some(order) => order,
+            None => ClassList::copy_of(self.alloc, &[])?,
+        };
+        Ok(ClassEnd {
+            class: c,
+            order,
+            own: row.own.copy(self.alloc)?,
+        })
+    }
+
+    /// The objects, by number.
+    fn object_ends(&self) -> Result<Vec<ObjEnd>, AllocError>
+        ensures { IfOk result (λ ends. ends.items ≡ map (object_end self.now.world) self.now.world.objects) }
+    {
+        let mut ends = Vec::with_capacity(self.alloc, self.objects.len())?;
+        for object in &self.objects {
+            let own = match self.dicts.get(usize::from(object.dict.number())) {
+                Some(dict) => dict.copy(self.alloc)?,
+                None => Pairs::new(self.alloc),
+            };
+            ends.push(ObjEnd {
+                class: object.class,
+                own,
+            })?;
+        }
+        Ok(ends)
+    }
+}

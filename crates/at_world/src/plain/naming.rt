@@ -1,0 +1,87 @@
+//! Whether what an operation names is made.
+ghost use Rattle.std.specs.Prelude.{◌≡◌, nat_lt, length};
+ghost use Rattle.at_world.specs.Step as steps;
+
+use super::Plain;
+use crate::lookup::class_row;
+use at_value::{Class, Obj, Op, Value};
+
+impl Plain {
+    /// Whether each object that the operation names is made.
+    pub(super) fn has_objects(&self, op: &Op) -> bool
+        ensures { result ≡ steps.are_objects self.now.world (steps.objects_in op.now) }
+    {
+        match op {
+            Op::TypeSet(_, _, v) => self.has_object_in(v),
+            Op::Set(o, _, v) => self.has_object(*o) && self.has_object_in(v),
+            Op::Share(o, p) => self.has_object(*o) && self.has_object(*p),
+            Op::Del(o, _)
+            | Op::SetClass(o, _)
+            | Op::Get(o, _)
+            | Op::Super(_, o, _)
+            | Op::Special(o, _)
+            | Op::ClassOf(o) => self.has_object(*o),
+            _ => true,
+        }
+    }
+
+    /// Whether the object is made.
+    fn has_object(&self, o: Obj) -> bool
+        ensures { result ≡ nat_lt o (length self.now.world.objects) }
+    {
+        usize::from(o.number()) < self.objects.len()
+    }
+
+    /// Whether the object that the value names is made, where it names one.
+    fn has_object_in(&self, v: &Value) -> bool
+        ensures { result ≡ steps.are_objects self.now.world (steps.object_in v.now) }
+    {
+        match v {
+            Value::Obj(o) => self.has_object(*o),
+            _ => true,
+        }
+    }
+
+    /// Whether each class that the operation names is made, but for one that it is to make.
+    pub(super) fn has_classes(&self, op: &Op) -> bool
+        ensures { result ≡ steps.are_made self.now.world (steps.classes_in op.now) }
+    {
+        match op {
+            Op::NewClass(_, bases) => self.has_all_classes(bases.as_slice()),
+            Op::TypeSet(c, _, v) => self.has_class(*c) && self.has_class_in(v),
+            Op::SetBases(c, bases) => self.has_class(*c) && self.has_all_classes(bases.as_slice()),
+            Op::Set(_, _, v) => self.has_class_in(v),
+            Op::TypeDel(c, _)
+            | Op::New(c)
+            | Op::SetClass(_, c)
+            | Op::TypeGet(c, _)
+            | Op::Super(c, _, _)
+            | Op::Mro(c) => self.has_class(*c),
+            _ => true,
+        }
+    }
+
+    /// Whether the class is made.
+    pub(super) fn has_class(&self, c: Class) -> bool
+        ensures { result ≡ steps.is_made self.now.world c }
+    {
+        class_row(&self.classes, c.number()).is_some()
+    }
+
+    /// Whether all these classes are made.
+    fn has_all_classes(&self, classes: &[Class]) -> bool
+        ensures { result ≡ steps.are_made self.now.world classes.now }
+    {
+        classes.iter().all(|c| self.has_class(*c))
+    }
+
+    /// Whether the class that the value names is made, where it names one.
+    fn has_class_in(&self, v: &Value) -> bool
+        ensures { result ≡ steps.are_made self.now.world (steps.class_in v.now) }
+    {
+        match v {
+            Value::Class(c) => self.has_class(*c),
+            _ => true,
+        }
+    }
+}

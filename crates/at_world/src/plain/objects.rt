@@ -1,0 +1,164 @@
+//! Operations that make and change objects.
+ghost use Rattle.std.specs.Prelude.{◌≡◌, ◌<◌, [], IfOk, OnOk, OnErr, slice_get, slice_set, slice_index_or, length};
+ghost use Rattle.at_value.specs.Pairs.{value_at, with_value, without};
+ghost use Rattle.at_desc.specs.Binding.{bound_set, bound_del};
+ghost use Rattle.at_world.specs.World as world;
+ghost use Rattle.at_world.specs.Attributes as attributes;
+ghost use Rattle.at_world.specs.Step as steps;
+
+use super::Plain;
+use crate::rows::Object;
+use at_desc::{Step, bind_del, bind_set};
+use at_value::{Class, Name, Obj, Pairs, Reply, Value};
+use std::alloc::AllocError;
+
+impl Plain {
+    /// Makes an object.
+    pub(super) fn new_object(&mut self, c: Class) -> Result<Reply, AllocError>
+        ensures ok { IfOk result (λ reply. (reply ≡ (steps.new_effect self.old.world c).reply) × (self.new ≡ record { world = (steps.new_effect self.old.world c).world; place = self.old.place })) }
+        ensures err { OnErr result (self.new ≡ self.old) }
+    {
+        if c == Class::object() {
+            return Ok(Reply::Immutable);
+        }
+        let Some(o) = Obj::new(self.objects.len() as u16) else {
+            return Ok(Reply::Full);
+        };
+        let init = self.find(c, Name::init());
+        self.objects.reserve(1)?;
+        self.dicts.push(Pairs::new(self.alloc))?;
+        self.objects.push_reserved(Object { class: c, dict: o });
+        Ok(Reply::Made(o, init))
+    }
+
+    /// Writes a name of an object.
+    pub(super) fn set(&mut self, o: Obj, n: Name, v: &Value) -> Result<Reply, AllocError>
+        ensures ok { IfOk result (λ reply. (reply ≡ (attributes.set_effect self.old.world o n v.now).reply) × (self.new ≡ record { world = (attributes.set_effect self.old.world o n v.now).world; place = self.old.place })) }
+        ensures err { OnErr result (self.new ≡ self.old) }
+    {
+        let Some(object) = self.object_at(o) else {
+            return Ok(Reply::NoAttr);
+        };
+        match self.set_step(&object, o, n, v) {
+            Step::Says(reply) => Ok(reply),
+            Step::Own => {
+                put_in_dict(&mut self.dicts, object.dict, n, *v)?;
+                Ok(Reply::Done)
+            }
+        }
+    }
+
+    /// The object with this number, where it is made.
+    fn object_at(&self, o: Obj) -> Option<Object>
+        ensures { result ≡ slice_get self.now.world.objects o }
+    {
+        self.objects.get(usize::from(o.number())).copied()
+    }
+
+    /// How a write of an object's name goes on.
+    fn set_step(&self, object: &Object, o: Obj, n: Name, v: &Value) -> Step
+        ensures { result ≡ (let t = world.find_in self.now.world object.now.class n in bound_set t (attributes.three_of self.now.world t) o v.now) }
+    {
+        let t = self.find(object.class, n);
+        let three = self.three_of(&t);
+        bind_set(t, &three, o, *v)
+    }
+
+    /// Deletes a name of an object.
+    pub(super) fn del(&mut self, o: Obj, n: Name) -> Reply
+        ensures reply { result ≡ (attributes.del_effect self.old.world o n).reply }
+        ensures state { self.new ≡ record { world = (attributes.del_effect self.old.world o n).world; place = self.old.place } }
+    {
+        let Some(object) = self.object_at(o) else {
+            return Reply::NoAttr;
+        };
+        match self.del_step(&object, o, n) {
+            Step::Says(reply) => reply,
+            Step::Own => self.del_own(&object, n),
+        }
+    }
+
+    /// How a deletion of an object's name goes on.
+    fn del_step(&self, object: &Object, o: Obj, n: Name) -> Step
+        ensures { result ≡ (let t = world.find_in self.now.world object.now.class n in bound_del t (attributes.three_of self.now.world t) o) }
+    {
+        let t = self.find(object.class, n);
+        let three = self.three_of(&t);
+        bind_del(t, &three, o)
+    }
+
+    /// Takes a name out of an object's dictionary, where it is there.
+    fn del_own(&mut self, object: &Object, n: Name) -> Reply
+        ensures reply { result ≡ (attributes.del_own self.old.world object.now n (value_at n (attributes.dict_of self.old.world object.now))).reply }
+        ensures state { self.new ≡ record { world = (attributes.del_own self.old.world object.now n (value_at n (attributes.dict_of self.old.world object.now))).world; place = self.old.place } }
+    {
+        if self.own_value(object, n).is_none() {
+            return Reply::NoAttr;
+        }
+        cut_in_dict(&mut self.dicts, object.dict, n);
+        Reply::Done
+    }
+
+    /// Gives an object another class.
+    pub(super) fn set_class(&mut self, o: Obj, c: Class) -> Reply
+        ensures reply { result ≡ (steps.set_class_on self.old.world o c (slice_get self.old.world.objects o)).reply }
+        ensures state { self.new ≡ record { world = (steps.set_class_on self.old.world o c (slice_get self.old.world.objects o)).world; place = self.old.place } }
+    {
+        let Some(was) = self.object_at(o) else {
+            return Reply::NoAttr;
+        };
+        if c == Class::object() {
+            return Reply::Immutable;
+        }
+        replace_object(&mut self.objects, o, Object { class: c, ..was });
+        Reply::Done
+    }
+
+    /// Gives an object the dictionary of another.
+    pub(super) fn share(&mut self, o: Obj, p: Obj) -> Reply
+        ensures reply { result ≡ (steps.share_on self.old.world o (slice_get self.old.world.objects o) (slice_get self.old.world.objects p)).reply }
+        ensures state { self.new ≡ record { world = (steps.share_on self.old.world o (slice_get self.old.world.objects o) (slice_get self.old.world.objects p)).world; place = self.old.place } }
+    {
+        let Some(was) = self.object_at(o) else {
+            return Reply::NoAttr;
+        };
+        let Some(other) = self.object_at(p) else {
+            return Reply::NoAttr;
+        };
+        let dict = other.dict;
+        replace_object(&mut self.objects, o, Object { dict, ..was });
+        Reply::Done
+    }
+}
+
+/// Puts a value under a name of a dictionary.
+fn put_in_dict(dicts: &mut [Pairs], d: Obj, n: Name, v: Value) -> Result<(), AllocError>
+    ensures ok { OnOk result (dicts.new ≡ slice_set dicts.old d (with_value n v (slice_index_or dicts.old d []))) }
+    ensures err { OnErr result (dicts.new ≡ dicts.old) }
+{
+    let i = usize::from(d.number());
+    if i < dicts.len() {
+        dicts[i].put(n, v)?;
+    }
+    Ok(())
+}
+
+/// Takes a name out of a dictionary.
+fn cut_in_dict(dicts: &mut [Pairs], d: Obj, n: Name)
+    ensures { dicts.new ≡ slice_set dicts.old d (without n (slice_index_or dicts.old d [])) }
+{
+    let i = usize::from(d.number());
+    if i < dicts.len() {
+        let _ = dicts[i].cut(n);
+    }
+}
+
+/// Puts an object in the place of the one with this number, where it is made.
+fn replace_object(objects: &mut [Object], o: Obj, now: Object)
+    ensures { objects.new ≡ slice_set objects.old o now }
+{
+    let i = usize::from(o.number());
+    if i < objects.len() {
+        objects[i] = now;
+    }
+}
