@@ -1,0 +1,7 @@
+pub mod Serials
+pub mod Views
+pub mod Sound
+pub mod Calls
+pub mod OneViews
+pub mod Joins
+pub mod OneThread

@@ -1,0 +1,15 @@
+//! What a pass knows of the history of writes. No value of these types is made: contracts alone speak of them.
+#![tactic(auto)]
+
+use at_value::Op;
+use std::collections::LinkedList;
+
+/// A view of the history: what one pass has seen of it, and which writes are its own.
+pub struct View {
+    /// The view's number, which no other view has, not even a spent one.
+    pub number: u64,
+    /// The front of the history that it has seen, the first write first.
+    pub seen: LinkedList<Op>,
+    /// The places of the writes that it made itself, or that a view made which it has taken in; places count from 1.
+    pub own: LinkedList<u64>,
+}
