@@ -3,6 +3,9 @@ use Rattle.std.proofs.Common.{◌≡◌, ◌∙◌, ap, refl, ℕ, ◌+◌, ◌�
 use Rattle.std.specs.List.{slice_split, onto_first, position, position_or_len, prefix_len}
 use Rattle.std.proofs.lemmas.List.Splits.{slice_split_first}
 use Rattle.std.proofs.lemmas.Option.{cond_some}
+use Rattle.at_script.specs.declared.pieces.Part.{Part}
+use Rattle.at_script.specs.declared.pieces.Part.TheVariants.{Line, Word, Dot, Colon, Comma, Quote}
+use Rattle.at_script.specs.Pieces.{keeps, kept}
 use Rattle.std.proofs.lemmas.Bool.{ltb-true, ltb-false}
 
 -- the first part ends where the test first passes
@@ -30,3 +33,12 @@ none_at n m = elim (ltb n m) as (λ b. (ltb n m ≡ b) → cond b (Some n) None 
 
 pub cut_nowhere : (p : ℕ → Bool) (xs : List ℕ) → position p xs ≡ None → slice_split p xs ≡ xs ∷ []
 cut_nowhere p xs h = whole_from p xs (none_at (position_or_len p xs) (length xs) h)
+
+-- a part that counts stands before the others, and one that doesn't is left out
+pub kept_step : (part : Part) (first : List ℕ) (rest : List (List ℕ)) → kept part (first ∷ rest) ≡ cond (keeps part first) (first ∷ kept part rest) (kept part rest)
+kept_step Line first rest = refl
+kept_step Word first rest = refl
+kept_step Dot first rest = refl
+kept_step Colon first rest = refl
+kept_step Comma first rest = refl
+kept_step Quote first rest = refl

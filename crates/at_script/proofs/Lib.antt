@@ -2,4 +2,9 @@ mod Ascii
 mod Blocks
 mod Cuts
 mod Numerals
-mod Places
+pub mod Steps
+pub mod Saying
+pub mod Leading
+pub mod Determined
+pub mod Numbering
+pub mod Alone

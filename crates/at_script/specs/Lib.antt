@@ -1,9 +1,14 @@
 pub mod Pieces
 pub mod Words
-pub mod Texts
+pub mod Literals
 pub mod Shapes
 pub mod Tables
 pub mod Parts
 pub mod Script
 pub mod Reading
 pub mod Faults
+pub mod Execution
+pub mod Executions
+pub mod Threads
+pub mod Runs
+pub mod ExecutionLaws

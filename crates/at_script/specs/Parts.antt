@@ -1,5 +1,5 @@
 -- What a script is.
-use Rattle.std.specs.Prelude.{ℕ, List, [], Option, Some, None, slice_get}
+use Rattle.std.specs.Prelude.{ℕ, List, [], Option, Some, None, map, slice_get}
 use Rattle.at_script.specs.declared.tables.Tables.{Tables}
 use Rattle.at_script.specs.declared.stmt.Stmt.{Stmt}
 use Rattle.at_script.specs.declared.stmt.Block.{Block}
@@ -17,7 +17,7 @@ pub record Parts : Type 0 where
   pub threads : List (List Stmt)
   pub finally : Option (List Stmt)
 
--- a script of the block `main` alone
+-- a script of the block `main` and functions without statements
 abbrev pub script_with : ℕ → List Stmt → Tables → Parts
 script_with budget main t = record {
   budget = budget;
@@ -25,7 +25,7 @@ script_with budget main t = record {
   classes = t.classes;
   vars = t.vars;
   funcs = t.funcs;
-  bodies = [];
+  bodies = map (λ _. []) t.funcs;
   main = main;
   threads = [];
   finally = None;

@@ -1,20 +1,34 @@
 -- Which bytes are the text of a script, and of which one.
 --
--- A script is a list of lines. For now it has a header, the block `main` and no other:
+-- A script is a list of lines. For now it has a header, functions without statements, and the block `main`:
 --
 --     attrs 1
+--     func F
+--     end
+--     ..
 --     main
 --     STATEMENT ..
 --     end
-use Rattle.std.specs.Prelude.{ℕ, ◌==◌, ◌-◌, nat_eq, nat_le, List, [], ◌∷◌, length, take, Option, Some, None, if◌then◌else◌, codes, bytes_eq}
+use Rattle.std.specs.Prelude.{ℕ, ◌==◌, ◌-◌, nat_eq, nat_le, Bool, true, false, is_some, ◌&&◌, ◌||◌, List, [], ◌∷◌, length, take, Option, Some, None, if◌then◌else◌, codes, bytes_eq}
 use Rattle.std.specs.Option.{option_map}
-use Rattle.std.specs.List.{slice_split, ends_with, filter_map}
+use Rattle.std.specs.List.{slice_split, ends_with, filter, filter_map, list_all}
 use Rattle.at_script.specs.declared.tables.Tables.{Tables}
 use Rattle.at_script.specs.declared.stmt.Stmt.{Stmt}
 use Rattle.at_script.specs.Parts.{Parts, script_with}
-use Rattle.at_script.specs.Texts.{all_interned}
-use Rattle.at_script.specs.Shapes.{◌>>=◌, Said, words_say, declared_by}
-use Rattle.at_script.specs.Tables.{opening, numbered}
+use Rattle.at_script.specs.Pieces.{is_blank, is_said, is_word, one_of, two_of}
+use Rattle.at_name.specs.Texts.{place_of, interned, all_interned}
+use Rattle.at_script.specs.Literals.{◌>>=◌}
+use Rattle.at_script.specs.Shapes.{Said, words_say, declared_by}
+use Rattle.at_script.specs.Tables.{opening, func_at, numbered}
+use Rattle.at_script.specs.Words.{identifier_of}
+
+-- a newline, a tab, a carriage return, or a character of ASCII that prints
+abbrev pub is_allowed : ℕ → Bool
+is_allowed byte = byte == 10 || byte == 9 || byte == 13 || (nat_le 32 byte && nat_le byte 126)
+
+-- at most 1,048,576 bytes, and only such as are allowed
+abbrev pub is_readable : List ℕ → Bool
+is_readable bytes = nat_le (length bytes) 1048576 && list_all is_allowed bytes
 
 -- the bytes without a newline at their end, which begins no line; 10 is the code of a newline
 abbrev pub without_last_newline : List ℕ → List ℕ
@@ -24,24 +38,58 @@ without_last_newline bytes = if ends_with nat_eq bytes (10 ∷ []) then take (le
 abbrev pub lines_of : List ℕ → List (List ℕ)
 lines_of bytes = slice_split (λ b. b == 10) (without_last_newline bytes)
 
--- the parts between blanks, of which 32 is the code
+-- the words between blanks
 abbrev pub words_of : List ℕ → List (List ℕ)
-words_of line = slice_split (λ b. b == 32) line
+words_of line = filter is_word (slice_split is_blank line)
 
--- the lines behind the line `main`
-abbrev pub behind_main : List (List ℕ) → Option (List (List ℕ))
-behind_main [] = None
-behind_main (line ∷ lines) = if bytes_eq line (codes "main") then Some lines else None
+-- whether it is this word, and there is one
+abbrev pub is_this : List ℕ → Option (List ℕ) → Bool
+is_this word None = false
+is_this word (Some other) = bytes_eq other word
 
--- the lines behind the header and the line `main`
+-- whether the line has this word and no other
+abbrev pub has_only : List ℕ → List ℕ → Bool
+has_only word line = is_this word (one_of (words_of line))
+
+-- whether they are these two words, and there are two
+abbrev pub are_these : List ℕ → List ℕ → Option (List ℕ × List ℕ) → Bool
+are_these first second None = false
+are_these first second (Some words) = bytes_eq words.0 first && bytes_eq words.1 second
+
+-- the line `attrs 1`
+abbrev pub is_header : List ℕ → Bool
+is_header line = are_these (codes "attrs") (codes "1") (two_of (words_of line))
+
+-- the lines behind the header; such as say nothing are skipped, but for the first
 abbrev pub headed : List (List ℕ) → Option (List (List ℕ))
 headed [] = None
-headed (header ∷ lines) = if bytes_eq header (codes "attrs 1") then behind_main lines else None
+headed (header ∷ lines) = if is_header header then Some (filter is_said lines) else None
+
+-- the identifier behind the word `func`
+abbrev pub func_named : Option (List ℕ × List ℕ) → Option (List ℕ)
+func_named None = None
+func_named (Some words) = if bytes_eq words.0 (codes "func") then identifier_of words.1 else None
+
+-- the function of a line `func F`
+abbrev pub func_of : List ℕ → Option (List ℕ)
+func_of line = func_named (two_of (words_of line))
+
+-- The lines behind the line `main`. Before it stand functions, each a line `func F` and a line `end`; where such a line
+-- `func F` comes before these lines, `end` is still to come.
+abbrev pub behind_funcs : Bool → List (List ℕ) → Option (List (List ℕ))
+behind_funcs opened [] = None
+behind_funcs true (line ∷ lines) = if has_only (codes "end") line then behind_funcs false lines else None
+behind_funcs false (line ∷ lines) =
+    if has_only (codes "main") line then Some lines else if is_some (func_of line) then behind_funcs true lines else None
+
+-- the functions that lines declare
+abbrev pub funcs_in : List (List ℕ) → List (List ℕ)
+funcs_in lines = filter_map func_of lines
 
 -- the lines before the last, which is `end`
 abbrev pub before_end : List (List ℕ) → Option (List (List ℕ))
 before_end [] = None
-before_end (line ∷ []) = if bytes_eq line (codes "end") then Some [] else None
+before_end (line ∷ []) = if has_only (codes "end") line then Some [] else None
 before_end (line ∷ next ∷ lines) = option_map (λ more. line ∷ more) (before_end (next ∷ lines))
 
 -- what the lines say, where each says something
@@ -61,6 +109,17 @@ declared_in lines = filter_map (λ line. declared_by (words_of line)) lines
 abbrev pub with_classes : List (List ℕ) → Option Tables
 with_classes lines = option_map (λ classes. record opening { classes = classes }) (all_interned 255 opening.classes (declared_in lines))
 
+-- the texts with one more function, which no class and no other function is called as; there are at most 1,024
+abbrev pub with_func : Tables → List ℕ → Option Tables
+with_func t text =
+    if is_some (place_of text t.classes) || is_some (func_at t text)
+    then None
+    else option_map (λ found. record t { funcs = found.1 }) (interned 1024 text t.funcs)
+
+abbrev pub with_funcs : Tables → List (List ℕ) → Option Tables
+with_funcs t [] = Some t
+with_funcs t (text ∷ more) = with_func t text >>= (λ next. with_funcs next more)
+
 -- the statements of lines in turn, and the texts with theirs
 abbrev pub all_numbered : Tables → List Said → Option (List Stmt × Tables)
 all_numbered t [] = Some ([], t)
@@ -73,17 +132,19 @@ all_numbered t (said ∷ more) = do
 abbrev pub block_read : Tables → List (List ℕ) → Option (List Stmt × Tables)
 block_read t lines = (before_end lines >>= all_say) >>= all_numbered t
 
--- a script of at most 10,000 statements
-abbrev pub small_script : List Stmt × Tables → Option Parts
-small_script read = if nat_le (length read.0) 10000 then Some (script_with 10000 read.0 read.1) else None
+-- a script of the block `main`, with the budget that a script has where it says none
+abbrev pub script_read : List Stmt × Tables → Option Parts
+script_read read = Some (script_with 10000 read.0 read.1)
 
--- the script of the lines behind the line `main`
+-- the script of the lines behind the header
 abbrev pub script_of_lines : List (List ℕ) → Option Parts
 script_of_lines lines = do
-  tables ← with_classes lines
-  read ← block_read tables lines
-  small_script read
+  main ← behind_funcs false lines
+  classes ← with_classes lines
+  tables ← with_funcs classes (funcs_in lines)
+  read ← block_read tables main
+  script_read read
 
--- the script that the bytes write, at most 1,048,576
+-- the script that the bytes write
 abbrev pub script_of : List ℕ → Option Parts
-script_of bytes = if nat_le (length bytes) 1048576 then headed (lines_of bytes) >>= script_of_lines else None
+script_of bytes = if is_readable bytes then headed (lines_of bytes) >>= script_of_lines else None

@@ -1,31 +1,40 @@
 -- What a line says, before its words are looked up.
-use Rattle.std.specs.Prelude.{ℕ, ◌==◌, List, [], ◌∷◌, Option, Some, None, if◌then◌else◌, codes, bytes_eq, option_and_then}
+use Rattle.std.specs.Prelude.{ℕ, ◌==◌, List, [], ◌∷◌, Option, Some, None, if◌then◌else◌, codes, bytes_eq}
 use Rattle.std.specs.Option.{option_map}
 use Rattle.std.specs.List.{slice_split}
-use Rattle.at_value.specs.declared.value.Value as values
 use Rattle.at_script.specs.declared.shape.Shape.{Shape}
-use Rattle.at_script.specs.declared.shape.Shape.TheVariants.{Class, Put, New, Set, Get}
+use Rattle.at_script.specs.declared.shape.Shape.TheVariants.{Class, Put, Cut, New, Mro, Set, Del, Get, Super, Special, ClassOf}
+use Rattle.at_script.specs.declared.literal.Literal.{Literal}
 use Rattle.at_script.specs.Pieces.{pieces_left, one_of, two_of}
-use Rattle.at_script.specs.Words.{identifier_of, attribute_name_of, value_of}
+use Rattle.at_script.specs.Words.{identifier_of, attribute_name_of, class_word_of}
+use Rattle.at_script.specs.Literals.{◌>>=◌, Written, written, value_of}
 
-infixl 10 ◌>>=◌
-abbrev pub ◌>>=◌ : {A B : Type 0} → Option A → (A → Option B) → Option B
-o >>= f = option_and_then f o
-
--- a line in texts
+-- A line in texts. The owner of an attribute that is read or written is a variable or a class.
 pub data Said : Type 0 where
   class : List ℕ → List (List ℕ) → Said
-  put : List ℕ → List ℕ → values.Value → Said
-  new : List ℕ → List ℕ → Said
-  set : List ℕ → List ℕ → values.Value → Said
+  put : List ℕ → List ℕ → Written → Said
+  cut : List ℕ → List ℕ → Said
+  new : List ℕ → List ℕ → Option Written → Said
+  mro : List ℕ → Said
+  set : List ℕ → List ℕ → Written → Said
+  del : List ℕ → List ℕ → Said
   get : List ℕ → List ℕ → Said
+  behind : List ℕ → List ℕ → List ℕ → Said
+  special : List ℕ → List ℕ → Said
+  classof : List ℕ → Said
 
 abbrev pub said : Shape → Said
 said (Class c bases) = class c.now (pieces_left bases)
-said (Put c x v) = put c.now x.now v
-said (New a c) = new a.now c.now
-said (Set a x v) = set a.now x.now v
-said (Get a x) = get a.now x.now
+said (Put c x v) = put c.now x.now (written v)
+said (Cut c x) = cut c.now x.now
+said (New a c v) = new a.now c.now (option_map written v)
+said (Mro c) = mro c.now
+said (Set r x v) = set r.now x.now (written v)
+said (Del r x) = del r.now x.now
+said (Get r x) = get r.now x.now
+said (Super c r x) = behind c.now r.now x.now
+said (Special r x) = special r.now x.now
+said (ClassOf r) = classof r.now
 
 -- what stands on the two sides of the one dot, of which the second names an attribute
 abbrev pub attribute_of : List ℕ → Option (List ℕ × List ℕ)
@@ -33,6 +42,13 @@ attribute_of word = do
   sides ← two_of (slice_split (λ b. b == 46) word)
   name ← attribute_name_of sides.1
   Some (sides.0, name)
+
+-- `R.x`: a variable or a class, and the name of an attribute
+abbrev pub owned_of : List ℕ → Option (List ℕ × List ℕ)
+owned_of word = do
+  place ← attribute_of word
+  owner ← class_word_of place.0
+  Some (owner, place.1)
 
 -- `class C B..`
 abbrev pub class_says : List (List ℕ) → Option Said
@@ -47,29 +63,89 @@ put_says words = do
   value ← value_of operands.1
   Some (put place.0 place.1 value)
 
--- `new a C`
-abbrev pub new_says : List (List ℕ) → Option Said
-new_says words = do
-  operands ← two_of words
-  variable ← identifier_of operands.0
-  Some (new variable operands.1)
+-- `cut C.x`
+abbrev pub cut_says : List (List ℕ) → Option Said
+cut_says words = do
+  operand ← one_of words
+  place ← attribute_of operand
+  Some (cut place.0 place.1)
 
--- `set a.x V`
+-- a value that may be left out
+abbrev pub given_of : List (List ℕ) → Option (Option Written)
+given_of [] = Some None
+given_of (word ∷ []) = option_map Some (value_of word)
+given_of (word ∷ next ∷ rest) = None
+
+-- `new a C [V]`
+abbrev pub new_says : List (List ℕ) → Option Said
+new_says [] = None
+new_says (a ∷ []) = None
+new_says (a ∷ c ∷ rest) = do
+  variable ← identifier_of a
+  given ← given_of rest
+  Some (new variable c given)
+
+-- `mro C`
+abbrev pub mro_says : List (List ℕ) → Option Said
+mro_says words = option_map mro (one_of words)
+
+-- `set R.x V`
 abbrev pub set_says : List (List ℕ) → Option Said
 set_says words = do
   operands ← two_of words
-  place ← attribute_of operands.0
-  variable ← identifier_of place.0
+  place ← owned_of operands.0
   value ← value_of operands.1
-  Some (set variable place.1 value)
+  Some (set place.0 place.1 value)
 
--- `get a.x`
+-- `del R.x`
+abbrev pub del_says : List (List ℕ) → Option Said
+del_says words = do
+  operand ← one_of words
+  place ← owned_of operand
+  Some (del place.0 place.1)
+
+-- `get R.x`
 abbrev pub get_says : List (List ℕ) → Option Said
 get_says words = do
   operand ← one_of words
-  place ← attribute_of operand
-  variable ← identifier_of place.0
-  Some (get variable place.1)
+  place ← owned_of operand
+  Some (get place.0 place.1)
+
+-- `super C R.x`
+abbrev pub super_says : List (List ℕ) → Option Said
+super_says words = do
+  operands ← two_of words
+  place ← owned_of operands.1
+  Some (behind operands.0 place.0 place.1)
+
+-- `special R.x`
+abbrev pub special_says : List (List ℕ) → Option Said
+special_says words = do
+  operand ← one_of words
+  place ← owned_of operand
+  Some (special place.0 place.1)
+
+-- `classof R`
+abbrev pub classof_says : List (List ℕ) → Option Said
+classof_says words = do
+  operand ← one_of words
+  owner ← class_word_of operand
+  Some (classof owner)
+
+-- what the words behind the first say, where that is a word for what is done with an object
+abbrev pub object_says : List ℕ → List (List ℕ) → Option Said
+object_says word rest =
+    if bytes_eq word (codes "set")
+    then set_says rest
+    else if bytes_eq word (codes "del")
+    then del_says rest
+    else if bytes_eq word (codes "get")
+    then get_says rest
+    else if bytes_eq word (codes "super")
+    then super_says rest
+    else if bytes_eq word (codes "special")
+    then special_says rest
+    else if bytes_eq word (codes "classof") then classof_says rest else None
 
 -- what the words of a line say
 abbrev pub words_say : List (List ℕ) → Option Said
@@ -79,9 +155,11 @@ words_say (word ∷ rest) =
     then class_says rest
     else if bytes_eq word (codes "put")
     then put_says rest
+    else if bytes_eq word (codes "cut")
+    then cut_says rest
     else if bytes_eq word (codes "new")
     then new_says rest
-    else if bytes_eq word (codes "set") then set_says rest else if bytes_eq word (codes "get") then get_says rest else None
+    else if bytes_eq word (codes "mro") then mro_says rest else object_says word rest
 
 -- the class that a line of these words declares
 abbrev pub declared_by : List (List ℕ) → Option (List ℕ)

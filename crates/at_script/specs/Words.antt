@@ -1,12 +1,9 @@
--- Identifiers, names of attributes, numbers and values.
+-- Identifiers, names of attributes, and numbers.
 use Rattle.std.specs.Prelude.{ℕ, ◌==◌, nat_eq, nat_le, Bool, false, not, ◌&&◌, ◌||◌, List, [], ◌∷◌, length, Option, Some, None, if◌then◌else◌, codes, bytes_eq, ℤ, pos, negsuc, int_le}
-use Rattle.std.specs.Option.{option_map}
-use Rattle.std.specs.List.{list_all, starts_with}
+use Rattle.std.specs.List.{list_all, starts_with, ends_with}
 use Rattle.std.specs.Char.{is_ascii_alphabetic, is_ascii_alphanumeric}
 use Rattle.std.specs.Fmt.{signed_decimal}
 use Rattle.std.specs.Str.Parse.{signed_digits_value}
-use Rattle.at_value.specs.declared.value.Value as values
-use Rattle.at_value.specs.declared.value.Value.TheVariants.{Nothing, Int}
 
 -- a letter or `_`, of which 95 is the code
 abbrev pub begins_identifier : ℕ → Bool
@@ -31,9 +28,30 @@ is_reserved word =
 abbrev pub is_identifier : List ℕ → Bool
 is_identifier word = nat_le (length word) 32 && has_identifier_form word && not (is_reserved word)
 
--- An attribute may have any identifier for a name but `mro` and those that begin with `__`.
+-- Names that begin and end with `__` belong to the language (Python language reference, section 2.3.2).
+abbrev pub is_system_name : List ℕ → Bool
+is_system_name word = starts_with nat_eq word (codes "__") && ends_with nat_eq word (codes "__")
+
+-- those that attribute access looks up
+abbrev pub is_access_name : List ℕ → Bool
+is_access_name word =
+    bytes_eq word (codes "__get__") || bytes_eq word (codes "__set__") || bytes_eq word (codes "__delete__") || bytes_eq word (codes "__getattr__")
+    || bytes_eq word (codes "__init__")
+
+-- those of the special methods that a script may name besides
+abbrev pub is_method_name : List ℕ → Bool
+is_method_name word =
+    bytes_eq word (codes "__len__") || bytes_eq word (codes "__bool__") || bytes_eq word (codes "__iter__") || bytes_eq word (codes "__next__")
+    || bytes_eq word (codes "__enter__") || bytes_eq word (codes "__exit__") || bytes_eq word (codes "__contains__")
+    || bytes_eq word (codes "__getitem__")
+
+-- a name of the language is one of these
+abbrev pub is_open_name : List ℕ → Bool
+is_open_name word = not (is_system_name word) || is_access_name word || is_method_name word
+
+-- An attribute may have any identifier for a name but `mro` and the names of the language that aren't listed here.
 abbrev pub is_attribute_name : List ℕ → Bool
-is_attribute_name word = is_identifier word && not (bytes_eq word (codes "mro")) && not (starts_with nat_eq word (codes "__"))
+is_attribute_name word = is_identifier word && not (bytes_eq word (codes "mro")) && is_open_name word
 
 -- a class is named by an identifier or by `object`
 abbrev pub is_class_word : List ℕ → Bool
@@ -57,7 +75,3 @@ abbrev pub number_of : List ℕ → Option ℤ
 number_of word =
     let z = signed_digits_value 10 word in
     if is_in_range z && bytes_eq (signed_decimal z) word then Some z else None
-
--- a value is `none` or a number
-abbrev pub value_of : List ℕ → Option values.Value
-value_of word = if bytes_eq word (codes "none") then Some Nothing else option_map Int (number_of word)

@@ -1,26 +1,98 @@
 //! The parts of bytes between separators.
-ghost use Rattle.std.specs.Prelude.{◌≡◌, ◌==◌, ◌∷◌, position};
+ghost use Rattle.std.specs.Prelude.{◌≡◌, ◌∷◌, position};
 ghost use Rattle.std.specs.Option.{option_map, option_copied};
 ghost use Rattle.std.specs.Iterator.{YieldsFirstRef, item_count};
 ghost use Rattle.std.specs.List.{slice_split};
-ghost use Rattle.at_script.specs.Pieces.{pieces_after, pieces_left, one_of, two_of, both_now};
+ghost use Rattle.at_script.specs.Pieces.{is_blank, is_said, separates, keeps, kept, parts_after, pieces_left, one_of, two_of, both_now, three_of, all_now};
 
-/// The parts of bytes that are left, in order, as `slice::split` cuts at a separator.
+/// What the bytes are parted into.
+#[derive(Clone, Copy)]
+pub enum Part {
+    /// Lines, which newlines part. One that has no word, or whose first word begins with `#`, is skipped.
+    Line,
+    /// Words, which spaces, tabs and carriage returns part, one or more.
+    Word,
+    /// What dots part.
+    Dot,
+    /// What colons part.
+    Colon,
+    /// What commas part.
+    Comma,
+    /// What double quotes part.
+    Quote,
+}
+
+/// The parts of bytes that are left, in order.
 #[derive(Clone, Copy)]
 pub struct Pieces<'a> {
-    separator: u8,
+    part: Part,
     rest: Option<&'a [u8]>,
 }
 
+/// A space, a tab or a carriage return.
+fn is_blank(byte: u8) -> bool
+    ensures { result ≡ is_blank byte }
+{
+    byte == b' ' || byte == b'\t' || byte == b'\r'
+}
+
+/// Whether the line isn't skipped.
+fn is_said(line: &[u8]) -> bool
+    ensures { result ≡ is_said line.now }
+{
+    for byte in line {
+        if !is_blank(*byte) {
+            return *byte != b'#';
+        }
+    }
+    false
+}
+
+impl Part {
+    /// Whether the byte stands between two parts.
+    fn separates(self, byte: u8) -> bool
+        ensures { result ≡ separates self byte }
+    {
+        match self {
+            Part::Line => byte == b'\n',
+            Part::Word => is_blank(byte),
+            Part::Dot => byte == b'.',
+            Part::Colon => byte == b':',
+            Part::Comma => byte == b',',
+            Part::Quote => byte == b'"',
+        }
+    }
+
+    /// Whether the part counts.
+    fn keeps(self, part: &[u8]) -> bool
+        ensures { result ≡ keeps self part.now }
+    {
+        match self {
+            Part::Line => is_said(part),
+            Part::Word => !part.is_empty(),
+            Part::Dot | Part::Colon | Part::Comma | Part::Quote => true,
+        }
+    }
+}
+
 impl<'a> Pieces<'a> {
-    /// The parts between the separators.
-    pub fn new(bytes: &'a [u8], separator: u8) -> Pieces<'a>
-        ensures { pieces_left result ≡ slice_split (λ b. b == separator) bytes.now }
+    /// The parts of the bytes.
+    pub fn new(bytes: &'a [u8], part: Part) -> Pieces<'a>
+        ensures { pieces_left result ≡ kept part (slice_split (separates part) bytes.now) }
     {
         Pieces {
-            separator,
+            part,
             rest: Some(bytes),
         }
+    }
+
+    /// The first part, whether it counts or not, and the others.
+    pub fn split_first(bytes: &'a [u8], part: Part) -> (&'a [u8], Pieces<'a>)
+        ensures parts { slice_split (separates part) bytes.now ≡ result.0.now ∷ parts_after part result.1.rest }
+        ensures kind { result.1.part ≡ part }
+    {
+        let (first, rest) = cut(bytes, part);
+        (first, Pieces { part, rest })
     }
 
     /// The one part, where there is one.
@@ -41,6 +113,15 @@ impl<'a> Pieces<'a> {
         let first = self.next()?;
         Some((first, self.one()?))
     }
+
+    /// The three parts, where there are three.
+    pub fn three(mut self) -> Option<(&'a [u8], &'a [u8], &'a [u8])>
+        ensures { option_map all_now result ≡ three_of (pieces_left self.entry) }
+    {
+        let first = self.next()?;
+        let (second, third) = self.two()?;
+        Some((first, second, third))
+    }
 }
 
 impl<'a> Iterator for Pieces<'a> {
@@ -51,26 +132,30 @@ impl<'a> Iterator for Pieces<'a> {
     ghost remaining = { item_count pieces_left };
 
     fn next(&mut self) -> Option<&'a [u8]> {
-        let bytes = self.rest?;
-        let (piece, rest) = cut(bytes, self.separator);
-        self.rest = rest;
-        Some(piece)
+        while let Some(bytes) = self.rest {
+            let (piece, rest) = cut(bytes, self.part);
+            self.rest = rest;
+            if self.part.keeps(piece) {
+                return Some(piece);
+            }
+        }
+        None
     }
 }
 
 /// The bytes up to the first separator, and those behind it where there is one.
-fn cut(bytes: &[u8], separator: u8) -> (&[u8], Option<&[u8]>)
-    ensures { slice_split (λ b. b == separator) bytes.now ≡ result.0.now ∷ pieces_after separator result.1 }
+fn cut(bytes: &[u8], part: Part) -> (&[u8], Option<&[u8]>)
+    ensures { slice_split (separates part) bytes.now ≡ result.0.now ∷ parts_after part result.1 }
 {
-    match position_of(separator, bytes) {
+    match position_of(part, bytes) {
         Some(i) => (&bytes[..i], Some(&bytes[i + 1..])),
         None => (bytes, None),
     }
 }
 
-/// The index of the first such byte.
-fn position_of(byte: u8, bytes: &[u8]) -> Option<usize>
-    ensures { result ≡ position (λ b. b == byte) bytes.now }
+/// The index of the first separator.
+fn position_of(part: Part, bytes: &[u8]) -> Option<usize>
+    ensures { result ≡ position (separates part) bytes.now }
 {
-    bytes.iter().position(|b| *b == byte)
+    bytes.iter().position(|b| part.separates(*b))
 }

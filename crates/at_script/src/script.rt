@@ -63,7 +63,18 @@ impl Script {
     {
         match b {
             Block::Main => Some(self.main.as_slice()),
-            Block::Thread(_) | Block::Finally | Block::Func(_) => None,
+            Block::Thread(_) | Block::Finally => None,
+            Block::Func(f) => self.body(f),
+        }
+    }
+
+    /// The statements of a function, of which it has none for now.
+    fn body(&self, f: Func) -> Option<&[Stmt]>
+        ensures { option_copied result ≡ slice_get self.now.bodies f }
+    {
+        match self.tables.funcs.text(usize::from(f.number())) {
+            Some(_) => Some(&[]),
+            None => None,
         }
     }
 
@@ -71,7 +82,7 @@ impl Script {
     pub fn name_text(&self, n: Name) -> Option<&str>
         ensures { option_copied result ≡ slice_get self.now.names n }
     {
-        self.tables.names.text(usize::from(n.number()))
+        self.tables.names.text(n)
     }
 
     /// The text of a class, and none exactly where the script has none of this number.
@@ -100,7 +111,7 @@ impl Script {
         ensures same { result ≡ length self.now.names }
         ensures most { result ≤ 4096 }
     {
-        self.tables.names.len()
+        usize::from(self.tables.names.len())
     }
 
     /// How many classes there are, `object` included.

@@ -1,11 +1,9 @@
-//! What a word is: an identifier, the name of an attribute, or a value.
+//! What a word is: an identifier, or the name of an attribute or a class.
 ghost use Rattle.std.specs.Prelude.{◌≡◌, IsTrue};
 ghost use Rattle.std.specs.List.{list_all};
 ghost use Rattle.std.specs.Option.{option_copied};
-ghost use Rattle.at_script.specs.Words.{begins_identifier, continues_identifier, has_identifier_form, is_reserved, is_identifier, is_attribute_name, is_class_word, identifier_of, attribute_name_of, class_word_of, value_of};
+ghost use Rattle.at_script.specs.Words.{begins_identifier, continues_identifier, has_identifier_form, is_reserved, is_identifier, is_system_name, is_access_name, is_method_name, is_open_name, is_attribute_name, is_class_word, identifier_of, attribute_name_of, class_word_of};
 
-use crate::number::number_of;
-use at_value::Value;
 use std::str;
 
 /// How many bytes an identifier has at most.
@@ -68,11 +66,50 @@ fn is_identifier(word: &[u8]) -> bool
     word.len() <= IDENTIFIER_MOST && has_identifier_form(word) && !is_reserved(word)
 }
 
+/// Whether the word begins and ends with `__`.
+fn is_system_name(word: &[u8]) -> bool
+    ensures { result ≡ is_system_name word.now }
+{
+    word.starts_with(b"__") && word.ends_with(b"__")
+}
+
+/// Whether the word is a name that attribute access looks up.
+fn is_access_name(word: &[u8]) -> bool
+    ensures { result ≡ is_access_name word.now }
+{
+    word == b"__get__".as_slice()
+        || word == b"__set__".as_slice()
+        || word == b"__delete__".as_slice()
+        || word == b"__getattr__".as_slice()
+        || word == b"__init__".as_slice()
+}
+
+/// Whether the word is another special method that a script may name.
+fn is_method_name(word: &[u8]) -> bool
+    ensures { result ≡ is_method_name word.now }
+{
+    word == b"__len__".as_slice()
+        || word == b"__bool__".as_slice()
+        || word == b"__iter__".as_slice()
+        || word == b"__next__".as_slice()
+        || word == b"__enter__".as_slice()
+        || word == b"__exit__".as_slice()
+        || word == b"__contains__".as_slice()
+        || word == b"__getitem__".as_slice()
+}
+
+/// Whether the word isn't a name of the language, or one that scripts may use.
+fn is_open_name(word: &[u8]) -> bool
+    ensures { result ≡ is_open_name word.now }
+{
+    !is_system_name(word) || is_access_name(word) || is_method_name(word)
+}
+
 /// Whether the word may name an attribute.
 fn is_attribute_name(word: &[u8]) -> bool
     ensures { result ≡ is_attribute_name word.now }
 {
-    is_identifier(word) && word != b"mro".as_slice() && !word.starts_with(b"__")
+    is_identifier(word) && word != b"mro".as_slice() && is_open_name(word)
 }
 
 /// Whether the word may stand for a class.
@@ -112,16 +149,5 @@ pub fn class_word_of(word: &[u8]) -> Option<&str>
         Some(text_of(word))
     } else {
         None
-    }
-}
-
-/// The value that the word writes: `none` or a number.
-pub fn value_of(word: &[u8]) -> Option<Value>
-    ensures { result ≡ value_of word.now }
-{
-    if word == b"none".as_slice() {
-        Some(Value::Nothing)
-    } else {
-        Some(Value::Int(number_of(word)?))
     }
 }
