@@ -2,7 +2,7 @@
 mod words;
 
 use crate::{PrintFault, print};
-use at_script::read;
+use at_script::{Script, read};
 use at_source::MemSink;
 use at_value::{
     Bases, Class, ClassList, Miss, Name, Obj, Op, Pairs, Path, Place, Reply, Sequence, Value,
@@ -11,6 +11,11 @@ use at_world::{ClassEnd, Final, Line, LineOp, LineReply, ObjEnd, Ran, What};
 use std::alloc::{AllocError, Global};
 use std::process::Abort;
 use std::test::Fail;
+
+/// The script of the bytes.
+fn script_of(alloc: Global, bytes: &[u8]) -> Result<Script, Fail> {
+    Ok(read(alloc, bytes)?)
+}
 
 fn class(n: u16) -> Class {
     Class::new(n).unwrap_or(Class::object())
@@ -81,7 +86,7 @@ end
 fn an_empty_run_is_printed(rt: HostRuntime) -> Result<(), Fail> {
     let alloc = rt.alloc();
     let script = b"attrs 1\nmain\nend\n";
-    let names = read(alloc, script)?;
+    let names = script_of(alloc, script)?;
     let mut classes = Vec::new(alloc);
     classes.push(class_end(alloc, 0, &[class(0)], &[])?)?;
     let mut run = run_of(alloc, Vec::new(alloc));
@@ -162,7 +167,7 @@ fn first_path(alloc: Global, o: Obj) -> Result<Ran, AllocError> {
 #[test]
 fn the_first_path_is_printed_however_the_sink_takes_it(rt: HostRuntime) -> Result<(), Fail> {
     let alloc = rt.alloc();
-    let names = read(alloc, FIRST_PATH_SCRIPT)?;
+    let names = script_of(alloc, FIRST_PATH_SCRIPT)?;
     let run = first_path(alloc, object(0).ok_or("no object")?)?;
     for most in [1, 7, 100_000] {
         let mut out = MemSink::new(alloc, 1000, most, Vec::new(alloc))?;
@@ -178,7 +183,7 @@ fn the_first_path_is_printed_however_the_sink_takes_it(rt: HostRuntime) -> Resul
 #[test]
 fn a_sink_that_fails_has_a_front(rt: HostRuntime) -> Result<(), Fail> {
     let alloc = rt.alloc();
-    let names = read(alloc, FIRST_PATH_SCRIPT)?;
+    let names = script_of(alloc, FIRST_PATH_SCRIPT)?;
     let run = first_path(alloc, object(0).ok_or("no object")?)?;
     // Room, the call that fails, and how much was written then. Without a failed write the flush is call 1.
     for (room, fails, written) in [
@@ -208,7 +213,7 @@ fn assert_prints(
     expected: &str,
 ) -> Result<(), Fail> {
     let alloc = rt.alloc();
-    let names = read(alloc, NAMES_SCRIPT)?;
+    let names = script_of(alloc, NAMES_SCRIPT)?;
     let mut out = MemSink::new(alloc, 10_000, 10_000, Vec::new(alloc))?;
     assert_eq!(rt; print(alloc, NAMES_SCRIPT, &names, run, &mut out), Ok(()));
     let (_, text) = str::from_utf8(out.bytes())

@@ -1,28 +1,42 @@
 -- What is so at the answers of a call.
-use Rattle.std.proofs.Common.{◌≡◌, ◌∙◌, ap, sym, ℕ, List, [], ◌∷◌, map, length, get_or, Some, arith, inl}
+use Rattle.std.proofs.Common.{◌≡◌, ◌∙◌, ◌<◌, ap, sym, ℕ, List, [], ◌∷◌, map, length, get_or, Some, arith, inl, inr}
 use Rattle.at_source.specs.Whole.{GaveAll}
+use Rattle.at_world.specs.declared.line.Line.{Line}
+use Rattle.at_world.specs.declared.last.Final as final
 use Rattle.at_script.specs.Parts.{Parts}
 use Rattle.at_script.specs.Script.{script_of}
-use Rattle.at_text.specs.Transcript.{text}
-use Rattle.at_world.specs.declared.last.Ran.{Ran}
 use Rattle.attrs.specs.declared.status.Status as status
 use Rattle.attrs.specs.declared.status.Status.TheVariants as statuses
-use Rattle.attrs.specs.Run.{run_of}
-use Rattle.attrs.specs.Answers.{Ends, IsAnswer, IsTextAnswer, text_by, text_of}
+use Rattle.attrs.specs.Answers.{Running, Ends, too_many, IsAnswer, IsTextAnswer, IsTextOf, IsTranscript}
 
 -- an answer to what was read to its end
-pub answered : (before now : Ends) (bytes : List ℕ) (s : status.Status) → GaveAll before.left now.left bytes → IsTextAnswer bytes before now s → IsAnswer before now s
-answered before now bytes statuses.Good gave answer = (bytes, answer.0, gave, answer.1, answer.2)
-answered before now bytes (statuses.Refused line cause) gave answer = (bytes, gave, answer.0, answer.1, answer.2, answer.3)
-answered before now bytes statuses.TooLong gave answer = absurd answer
-answered before now bytes statuses.Usage gave answer = absurd answer
-answered before now bytes statuses.NoMemory gave answer = answer
-answered before now bytes statuses.ReadFault gave answer = absurd answer
-answered before now bytes statuses.WriteFault gave answer = inl (bytes, gave, answer)
+pub answered : (Runs : Running) (before now : Ends) (bytes : List ℕ) (s : status.Status) → GaveAll before.left now.left bytes → length bytes < too_many → IsTextAnswer Runs bytes before now s → IsAnswer Runs before now s
+answered Runs before now bytes statuses.Good gave few answer = (bytes, gave, few, answer)
+answered Runs before now bytes (statuses.Refused line cause) gave few answer = (bytes, gave, few, answer)
+answered Runs before now bytes statuses.TooLong gave few answer = absurd answer
+answered Runs before now bytes statuses.Usage gave few answer = absurd answer
+answered Runs before now bytes statuses.NoMemory gave few answer = answer
+answered Runs before now bytes statuses.ReadFault gave few answer = absurd answer
+answered Runs before now bytes statuses.WriteFault gave few answer = inl (bytes, gave, few, answer)
 
--- the text of a script's bytes is the transcript of its run
-pub text_of_script : (bytes : List ℕ) (s : Parts) (ran : Ran) → script_of bytes ≡ Some s → ran ≡ run_of s → text bytes s ran.lines ran.last ≡ text_of bytes
-text_of_script bytes s ran is ran_is = ap (λ (r : Ran). text bytes s r.lines r.last) ran_is ∙ ap (text_by bytes) (sym is)
+-- What is a run of a script in one sense is one in another at each answer, where it is so of every script that bytes write.
+module _ (Runs Others : Running) (so : (bytes : List ℕ) (s : Parts) (lines : List Line) (last : final.Final) → script_of bytes ≡ Some s → Runs s lines last → Others s lines last) where
+  transcript_so : (bytes written : List ℕ) → IsTranscript Runs bytes written → IsTranscript Others bytes written
+  transcript_so bytes written t = (t.0, t.1, t.2, t.3, so bytes t.0 t.1 t.2 t.3 t.4, t.5)
+
+  text_so : (bytes written : List ℕ) → IsTextOf Runs bytes written → IsTextOf Others bytes written
+  text_so bytes written (inl t) = inl (transcript_so bytes written t)
+  text_so bytes written (inr none) = inr none
+
+  pub answer_so : (before now : Ends) (s : status.Status) → IsAnswer Runs before now s → IsAnswer Others before now s
+  answer_so before now statuses.Good (bytes, gave, few, (written, t, wrote)) = (bytes, gave, few, (written, transcript_so bytes written t, wrote))
+  answer_so before now (statuses.Refused line cause) answer = answer
+  answer_so before now statuses.TooLong answer = answer
+  answer_so before now statuses.Usage answer = answer
+  answer_so before now statuses.NoMemory answer = answer
+  answer_so before now statuses.ReadFault answer = answer
+  answer_so before now statuses.WriteFault (inl (bytes, gave, few, (written, t, failed))) = inl (bytes, gave, few, (written, text_so bytes written t, failed))
+  answer_so before now statuses.WriteFault (inr long) = inr long
 
 -- the one of a list
 pub lone : {X Y : Type 0} (f : X → Y) (xs : List X) (x : X) → length xs ≡ 1 → x ≡ get_or xs 0 x → map f xs ≡ f x ∷ []

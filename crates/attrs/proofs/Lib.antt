@@ -1,2 +1,5 @@
-mod Small
+mod MainAlone
 mod Answered
+mod Turning
+mod Legals
+mod Unique

@@ -1,5 +1,5 @@
 -- How each answer of a call comes about, and what is written with it.
-use Rattle.std.specs.Prelude.{ℕ, ◌≡◌, ◌⊎◌, List, ◌++◌, Option, Some, None, codes, decimal}
+use Rattle.std.specs.Prelude.{ℕ, ◌≡◌, ◌<◌, ◌⊎◌, List, ◌++◌, length, Option, Some, None, codes, decimal}
 use Rattle.std.specs.Io.KnownBytes.{append_known}
 use Rattle.at_source.specs.Faults.{Rose}
 use Rattle.at_source.specs.Whole.{GaveAll, GaveFirst, GaveFewer, GrewByFront}
@@ -8,7 +8,8 @@ use Rattle.at_script.specs.declared.fault.Cause.TheVariants as causes
 use Rattle.at_script.specs.Parts.{Parts}
 use Rattle.at_script.specs.Script.{script_of}
 use Rattle.at_text.specs.Transcript.{text}
-use Rattle.attrs.specs.Run.{run_of}
+use Rattle.at_world.specs.declared.line.Line.{Line}
+use Rattle.at_world.specs.declared.last.Final as final
 use Rattle.attrs.specs.declared.status.Status as status
 use Rattle.attrs.specs.declared.status.Status.TheVariants as statuses
 
@@ -38,18 +39,6 @@ too_long_text = codes "refused 0 long\n"
 abbrev pub usage_text : List ℕ
 usage_text = codes "usage: attrs run or plain or make SEED COUNT\n"
 
--- the transcript of a script of these bytes
-abbrev pub transcript_of : List ℕ → Parts → List ℕ
-transcript_of bytes s = text bytes s (run_of s).lines (run_of s).last
-
-abbrev pub text_by : List ℕ → Option Parts → List ℕ
-text_by bytes (Some s) = transcript_of bytes s
-text_by bytes None = refusal_text 0 causes.Script
-
--- what is written for an input that was read to its end: the transcript of its one run, or that it is no script
-abbrev pub text_of : List ℕ → List ℕ
-text_of bytes = text_by bytes (script_of bytes)
-
 -- The answers
 
 -- what the source has left and the sink has written, where they tell it, and how often each failed
@@ -71,31 +60,42 @@ Wrote before now bytes = now.written ≡ append_known before.written bytes
 abbrev pub FailedWriting : Ends → Ends → List ℕ → Type 0
 FailedWriting before now bytes = Rose before.write_faults now.write_faults × GrewByFront before.written now.written bytes
 
--- What is so at each answer to a script that is read and run: the text is written whole where the source gave a script
--- to its end; it is refused where what the source gave to its end is no script, and where the source gave more bytes than
--- a script has; a fault is answered only where the count of the source or the sink rose. Want of memory alone has no
--- cause; then, and at a fault of the source, nothing is written.
-abbrev pub IsAnswer : Ends → Ends → status.Status → Type 0
-IsAnswer before now statuses.Good = (bytes : List ℕ) × (s : Parts) × GaveAll before.left now.left bytes × (script_of bytes ≡ Some s) × Wrote before now (transcript_of bytes s)
-IsAnswer before now (statuses.Refused line cause) =
-    (bytes : List ℕ) × GaveAll before.left now.left bytes × (script_of bytes ≡ None) × (line ≡ 0) × (cause ≡ causes.Script) × Wrote before now (refusal_text line cause)
-IsAnswer before now statuses.TooLong = GaveFirst too_many before.left now.left × Wrote before now too_long_text
-IsAnswer before now statuses.Usage = ⊥
-IsAnswer before now statuses.NoMemory = now.written ≡ before.written
-IsAnswer before now statuses.ReadFault = Rose before.read_faults now.read_faults × GaveFewer too_many before.left now.left × (now.written ≡ before.written)
-IsAnswer before now statuses.WriteFault =
-    ((bytes : List ℕ) × GaveAll before.left now.left bytes × FailedWriting before now (text_of bytes))
-    ⊎ (GaveFirst too_many before.left now.left × FailedWriting before now too_long_text)
+-- which lines and last namespaces are a run of a script
+abbrev pub Running : Type 1
+Running = Parts → List Line → final.Final → Type 0
 
--- what is so at each answer to an input that was read to its end
-abbrev pub IsTextAnswer : List ℕ → Ends → Ends → status.Status → Type 0
-IsTextAnswer bytes before now statuses.Good = (s : Parts) × (script_of bytes ≡ Some s) × Wrote before now (transcript_of bytes s)
-IsTextAnswer bytes before now (statuses.Refused line cause) = (script_of bytes ≡ None) × (line ≡ 0) × (cause ≡ causes.Script) × Wrote before now (refusal_text line cause)
-IsTextAnswer bytes before now statuses.NoMemory = now.written ≡ before.written
-IsTextAnswer bytes before now statuses.WriteFault = FailedWriting before now (text_of bytes)
-IsTextAnswer bytes before now statuses.TooLong = ⊥
-IsTextAnswer bytes before now statuses.Usage = ⊥
-IsTextAnswer bytes before now statuses.ReadFault = ⊥
+-- the text is the transcript of a run of the script that the bytes are
+abbrev pub IsTranscript : Running → List ℕ → List ℕ → Type 0
+IsTranscript Runs bytes written = (s : Parts) × (lines : List Line) × (last : final.Final) × (script_of bytes ≡ Some s) × Runs s lines last × (written ≡ text bytes s lines last)
+
+-- the text that is written for an input which was read to its end: the transcript of a run, or that it is no script
+abbrev pub IsTextOf : Running → List ℕ → List ℕ → Type 0
+IsTextOf Runs bytes written = IsTranscript Runs bytes written ⊎ ((script_of bytes ≡ None) × (written ≡ refusal_text 0 causes.Script))
+
+-- What is so at each answer to an input that was read to its end.
+abbrev pub IsTextAnswer : Running → List ℕ → Ends → Ends → status.Status → Type 0
+IsTextAnswer Runs bytes before now statuses.Good = (written : List ℕ) × IsTranscript Runs bytes written × Wrote before now written
+IsTextAnswer Runs bytes before now (statuses.Refused line cause) = (script_of bytes ≡ None) × (line ≡ 0) × (cause ≡ causes.Script) × Wrote before now (refusal_text line cause)
+IsTextAnswer Runs bytes before now statuses.NoMemory = now.written ≡ before.written
+IsTextAnswer Runs bytes before now statuses.WriteFault = (written : List ℕ) × IsTextOf Runs bytes written × FailedWriting before now written
+IsTextAnswer Runs bytes before now statuses.TooLong = ⊥
+IsTextAnswer Runs bytes before now statuses.Usage = ⊥
+IsTextAnswer Runs bytes before now statuses.ReadFault = ⊥
+
+-- What is so at each answer to a script that is read and run: the transcript is written whole where the source gave a
+-- script to its end; it is refused where what the source gave to its end is no script, and, as too long, where the source
+-- gave more bytes than a script has; a fault is answered only where the count of the source or the sink rose. Want of memory alone has no
+-- cause; then, and at a fault of the source, nothing is written.
+abbrev pub IsAnswer : Running → Ends → Ends → status.Status → Type 0
+IsAnswer Runs before now statuses.Good = (bytes : List ℕ) × GaveAll before.left now.left bytes × (length bytes < too_many) × IsTextAnswer Runs bytes before now statuses.Good
+IsAnswer Runs before now (statuses.Refused line cause) = (bytes : List ℕ) × GaveAll before.left now.left bytes × (length bytes < too_many) × IsTextAnswer Runs bytes before now (statuses.Refused line cause)
+IsAnswer Runs before now statuses.TooLong = GaveFirst too_many before.left now.left × Wrote before now too_long_text
+IsAnswer Runs before now statuses.Usage = ⊥
+IsAnswer Runs before now statuses.NoMemory = now.written ≡ before.written
+IsAnswer Runs before now statuses.ReadFault = Rose before.read_faults now.read_faults × GaveFewer too_many before.left now.left × (now.written ≡ before.written)
+IsAnswer Runs before now statuses.WriteFault =
+    ((bytes : List ℕ) × GaveAll before.left now.left bytes × (length bytes < too_many) × IsTextAnswer Runs bytes before now statuses.WriteFault)
+    ⊎ (GaveFirst too_many before.left now.left × FailedWriting before now too_long_text)
 
 -- what is so at each answer to words that are no command: nothing is read, and the usage line is written
 abbrev pub IsUsageAnswer : Ends → Ends → status.Status → Type 0

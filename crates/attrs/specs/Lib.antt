@@ -1,3 +1,5 @@
 pub mod Status
-pub mod Run
+pub mod PlainRun
+pub mod Turns
+pub mod RunLaws
 pub mod Answers

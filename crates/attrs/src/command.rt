@@ -4,6 +4,7 @@ ghost use Rattle.std.specs.Io.KnownBytes.{append_known};
 ghost use Rattle.at_source.specs.Faults.{Rose};
 ghost use Rattle.at_source.specs.Whole.{GaveFirst, GrewByFront};
 ghost use Rattle.at_script.specs.Script.{script_of};
+ghost use Rattle.attrs.specs.PlainRun.{IsPlainRun, IsLegalRun};
 ghost use Rattle.attrs.specs.Answers.{Ends, IsAnswer, IsTextAnswer, IsUsageAnswer, refusal_text};
 
 use crate::gate::Gate;
@@ -20,8 +21,10 @@ use std::thread::Threads;
 /// How many bytes are too many for a script, which has at most 1,048,576.
 const TOO_MANY: usize = 1_048_577;
 
-/// Does what the words say. `run` reads a script to the end of the source, runs it, and writes its transcript. Any
-/// other words are no command: nothing is read, and the usage line is written.
+/// Does what the words say. `run` reads a script to the end of the source, runs it, and writes the transcript of one legal
+/// history: each write has its own place, the lines run the script, every reply is what the data model gives after just
+/// that many writes, and the namespaces printed last are those after all of them. Any other words are no command: nothing
+/// is read, and the usage line is written.
 pub fn attrs<R: Wait + Threads + Sync, S: Source, K: Sink, G: Gate + Sync>(
     _rt: &R,
     alloc: Global,
@@ -31,7 +34,7 @@ pub fn attrs<R: Wait + Threads + Sync, S: Source, K: Sink, G: Gate + Sync>(
     _gate: &G,
 ) -> Status
     ensures run { map string_bytes words.now ≡ codes "run" ∷ [] →
-        IsAnswer (record { left = S.left src.old; written = K.written out.old; read_faults = S.faults src.old; write_faults = K.faults out.old })
+        IsAnswer IsLegalRun (record { left = S.left src.old; written = K.written out.old; read_faults = S.faults src.old; write_faults = K.faults out.old })
         (record { left = S.left src.new; written = K.written out.new; read_faults = S.faults src.new; write_faults = K.faults out.new }) result }
     ensures usage { ¬ (map string_bytes words.now ≡ codes "run" ∷ []) →
         IsUsageAnswer (record { left = S.left src.old; written = K.written out.old; read_faults = S.faults src.old; write_faults = K.faults out.old })
@@ -69,7 +72,7 @@ fn usage<K: Sink>(out: &mut K) -> Status
 /// It waits for nobody. Bytes that are no script, and more bytes than a script may have, are refused by a line on the
 /// sink. A fault is answered only where the source or the sink failed in this call.
 pub fn plain_text<S: Source, K: Sink>(alloc: Global, src: &mut S, out: &mut K) -> Status
-    ensures answer { IsAnswer (record { left = S.left src.old; written = K.written out.old; read_faults = S.faults src.old; write_faults = K.faults out.old })
+    ensures answer { IsAnswer IsPlainRun (record { left = S.left src.old; written = K.written out.old; read_faults = S.faults src.old; write_faults = K.faults out.old })
         (record { left = S.left src.new; written = K.written out.new; read_faults = S.faults src.new; write_faults = K.faults out.new }) result }
     ensures later { (S.faults src.old ≤ S.faults src.new) × (K.faults out.old ≤ K.faults out.new) }
 {
@@ -84,7 +87,7 @@ pub fn plain_text<S: Source, K: Sink>(alloc: Global, src: &mut S, out: &mut K) -
 /// Writes that the input is too long for a script.
 fn too_long<K: Sink>(out: &mut K) -> Status
     ensures answer { (before now : Option (List ℕ)) (faults risen : ℕ) → GaveFirst 1048577 before now →
-        IsAnswer (record { left = before; written = K.written out.old; read_faults = faults; write_faults = K.faults out.old })
+        IsAnswer IsPlainRun (record { left = before; written = K.written out.old; read_faults = faults; write_faults = K.faults out.old })
         (record { left = now; written = K.written out.new; read_faults = risen; write_faults = K.faults out.new }) result }
     ensures later { K.faults out.old ≤ K.faults out.new }
 {
@@ -97,7 +100,7 @@ fn too_long<K: Sink>(out: &mut K) -> Status
 /// Writes the transcript of the script of these bytes, or that they are no script.
 fn answer<K: Sink>(alloc: Global, bytes: &[u8], out: &mut K) -> Status
     ensures answer { (left now : Option (List ℕ)) (faults risen : ℕ) →
-        IsTextAnswer bytes.now (record { left = left; written = K.written out.old; read_faults = faults; write_faults = K.faults out.old })
+        IsTextAnswer IsPlainRun bytes.now (record { left = left; written = K.written out.old; read_faults = faults; write_faults = K.faults out.old })
         (record { left = now; written = K.written out.new; read_faults = risen; write_faults = K.faults out.new }) result }
     ensures later { K.faults out.old ≤ K.faults out.new }
 {
@@ -112,7 +115,7 @@ fn answer<K: Sink>(alloc: Global, bytes: &[u8], out: &mut K) -> Status
 fn transcribe<K: Sink>(alloc: Global, bytes: &[u8], script: &Script, out: &mut K) -> Status
     requires { script_of bytes.now ≡ Some script.now }
     ensures answer { (left now : Option (List ℕ)) (faults risen : ℕ) →
-        IsTextAnswer bytes.now (record { left = left; written = K.written out.old; read_faults = faults; write_faults = K.faults out.old })
+        IsTextAnswer IsPlainRun bytes.now (record { left = left; written = K.written out.old; read_faults = faults; write_faults = K.faults out.old })
         (record { left = now; written = K.written out.new; read_faults = risen; write_faults = K.faults out.new }) result }
     ensures later { K.faults out.old ≤ K.faults out.new }
 {

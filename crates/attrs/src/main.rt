@@ -3,6 +3,7 @@
 
 mod command;
 mod gate;
+mod laws;
 mod plain_run;
 mod status;
 mod telling;

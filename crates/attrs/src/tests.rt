@@ -1,13 +1,22 @@
 //! The program end to end, over sources and sinks in memory: the text that it writes, and how it ends.
 ghost use Rattle.std.specs.Prelude.{◌<◌};
 
+mod changes;
+mod judging;
+mod operands;
+mod reads;
+mod rows;
+
 use crate::command::{attrs, plain_text};
 use crate::gate::{Gate, OpenGate};
 use crate::status::Status;
 use at_script::Cause;
 use at_source::{MemSink, MemSource};
 use std::alloc::{AllocError, Global};
+use std::process::Abort;
+use std::sync::Wait;
 use std::test::Fail;
+use std::thread::Threads;
 
 const FIRST: &str = "attrs 1\nmain\nclass C\nput C.x 1\nnew a C\nget a.x\nget a.x\nend\n";
 
@@ -31,6 +40,26 @@ fn none(alloc: Global) -> Vec<u64> {
 /// One call number.
 fn call(alloc: Global, number: u64) -> Result<Vec<u64>, AllocError> {
     Vec::from_slice(alloc, &[number])
+}
+
+/// Runs the script by the word `run`. What is written has to be the script as transcripts begin, and then what is told.
+fn transcribes<R: Wait + Threads + Sync + Abort>(
+    rt: &R,
+    alloc: Global,
+    script: &str,
+    told: &str,
+) -> Result<(), Fail> {
+    let words = vec![in alloc; format!(in alloc; "run")?]?;
+    let mut src = source(alloc, script, 1000, none(alloc))?;
+    let mut out = MemSink::new(alloc, 1_000_000, 1000, none(alloc))?;
+    let status = attrs(rt, alloc, &words, &mut src, &mut out, &OpenGate);
+    let wanted = format!(in alloc;
+        "attrs transcript 1\nscript {}\n{script}\n{told}",
+        script.len()
+    )?;
+    assert!(rt; status == Status::Good, "{script}");
+    assert_eq!(rt; out.bytes(), wanted.as_bytes(), "{script}");
+    Ok(())
 }
 
 #[test]

@@ -1,4 +1,12 @@
+use Rattle.attrs.specs.PlainRun.{IsPlainRun, IsLegalRun}
+use Rattle.attrs.proofs.Answered.{answer_so}
+use Rattle.attrs.proofs.Legals.{plain_is_legal}
+use Rattle.attrs.proofs.MainAlone.{main_alone}
 use Rattle.attrs.proofs.command.attrs.Goals as goal
 
 pub returns-else-is_run-clause-usage : goal.returns-else-is_run-clause-usage
 returns-else-is_run-clause-usage g c = λ _. c.usage.ensures.answer (g.S.Source.left c.args.src.now) (g.S.Source.faults c.args.src.now)
+
+pub returns-then-is_run-clause-run : goal.returns-then-is_run-clause-run
+returns-then-is_run-clause-run g c = λ is.
+    answer_so IsPlainRun IsLegalRun (λ bytes s lines last script run. let alone = main_alone bytes s script in plain_is_legal s lines last alone.0 alone.1 run) _ _ c.plain_text.result c.plain_text.ensures.answer

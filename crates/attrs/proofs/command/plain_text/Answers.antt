@@ -1,12 +1,14 @@
-use Rattle.std.proofs.Common.{ap, sym, subst, List, ℕ, Err}
+use Rattle.std.proofs.Common.{ap, sym, subst, arith, List, ℕ, length, Err}
 use Rattle.at_source.specs.Whole.{GaveAll}
+use Rattle.attrs.specs.PlainRun.{IsPlainRun}
 use Rattle.attrs.proofs.Answered.{answered}
 use Rattle.attrs.proofs.command.plain_text.Goals as goal
 
 pub returns-in-Ok-clause-answer : goal.returns-in-Ok-clause-answer
 returns-in-Ok-clause-answer g c =
     let Gave : List ℕ → Type 0 = GaveAll (g.S.Source.left c.args.src.now) (g.S.Source.left c.read_all.new.source) in
-    answered _ _ c.deref.result.now c.answer.result (subst Gave (sym c.deref.ensures.value) c.in-Ok.ensures.whole)
+    answered IsPlainRun _ _ c.deref.result.now c.answer.result (subst Gave (sym c.deref.ensures.value) c.in-Ok.ensures.whole)
+    (let short = c.in-Ok.ensures.short in let same = ap length c.deref.ensures.value in omega arith)
     (c.answer.ensures.answer (g.S.Source.left c.args.src.now) (g.S.Source.left c.read_all.new.source) (g.S.Source.faults c.args.src.now) (g.S.Source.faults c.read_all.new.source))
 
 pub returns-in-Err-TooLong-clause-answer : goal.returns-in-Err-TooLong-clause-answer
