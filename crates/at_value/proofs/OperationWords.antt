@@ -1,51 +1,75 @@
--- Bases in one word, and the words of an operation read back.
-use Rattle.std.proofs.Common.{ℕ, suc, ◌≢◌, inl, inr, ◌≡◌, ◌<◌, ◌≤◌, ◌+◌, ◌*◌, ◌^◌, ◌/◌, ◌%◌, ◌-◌, ◌↔◌, nat_lt, nat_le, true, false, List, [], ◌∷◌, ◌++◌, length, drop, get_or, Option, Some, None, ap, sym, subst, refl, ◌∙◌, arith, append_assoc, drop-cons, bit_or}
-use Rattle.std.specs.Prelude.{option_map, Result, Ok, Err, OnOk}
-use Rattle.std.specs.Result.{is_err}
+-- Bases in words, and the words of an operation read back.
+use Rattle.std.proofs.Common.{ℕ, zero, suc, ◌≢◌, inl, inr, ◌≡◌, ◌<◌, ◌≤◌, ◌+◌, ◌*◌, ◌^◌, ◌/◌, ◌%◌, ◌-◌, ◌↔◌, nat_le, true, List, [], ◌∷◌, ◌++◌, length, take, drop, get_or, Option, Some, None, ap, sym, subst, refl, ◌∙◌, arith, append_assoc, drop-cons, take-append-drop, length-append, length-drop}
+use Rattle.std.specs.Prelude.{option_map, min, Result, Ok, Err, OnOk, OnErr}
 use Rattle.std.proofs.lemmas.Bool.Decides.{nat_tests}
-use Rattle.std.proofs.lemmas.Nat.{mul-add-lt, shr_high, mod_low, shr-shr, or_shifted, shl_whole, pow-add}
-use Rattle.std.proofs.Math.Nat.{mul-le-mul_left, le_trans, mul_comm}
+use Rattle.std.proofs.lemmas.Nat.{mul-add-lt, shr_high, mod_low, pow-add}
+use Rattle.std.proofs.Math.Nat.{mul-le-mul_left, le_trans, mul_comm, min_comm, min-eq_left, min-eq_right, min-le_left}
+use Rattle.std.proofs.Math.Pow.{pow_mono}
+use Rattle.std.proofs.lemmas.List.{length-take}
 use Rattle.std.proofs.lemmas.Bool.{cases_lt}
 use Rattle.std.proofs.lemmas.List.{get_or_default}
 use Rattle.at_value.specs.declared.value.Value as value
 use Rattle.at_value.specs.declared.operation.Op as op
 use Rattle.at_value.specs.declared.operation.Op.TheVariants as ops
-use Rattle.at_value.specs.declared.packing.Heading.{Heading}
 use Rattle.at_value.specs.Classes.{AreClasses}
+use Rattle.at_value.specs.Widths.{classes, operation_bits, subject_bits, second_bits, attribute_bits, base_bits, bases_a_word}
 use Rattle.at_value.specs.Words.{IsValue, word_of}
-use Rattle.at_value.specs.Packing.{IsBases, IsOp, heading, row_word, bases_word, words_of, HasWords}
+use Rattle.at_value.specs.Packing.{IsBases, IsOp, heading, row_word, row_words, bases_words, words_of, HasWords}
 use Rattle.at_value.specs.Reading.{below, value_at}
 use Rattle.at_value.proofs.Words.{below_gives, word_exact}
-use Rattle.at_value.specs.ReadingOps.{with_two, classes_in, bases_at, heading_at, op_at}
+use Rattle.at_value.specs.ReadingOps.{with_two, classes_in, classes_of_words, bases_at, heading_at, op_at}
 
--- One more number goes into the lowest bits: no bit of the others is lost.
-pub word_grows : (width k word c : ℕ) → word < 2 ^ (width * k) → width * suc k ≤ 64 → c < 2 ^ width
-    → (bit_or (word * 2 ^ width % 2 ^ 64) c ≡ word * 2 ^ width + c) × (word * 2 ^ width + c < 2 ^ (width * suc k))
-word_grows width k word c small few lt =
+-- One more number goes into the lowest bits: the word stays within the bits of all.
+pub word_grows : (width k word c : ℕ) → word < 2 ^ (width * k) → c < 2 ^ width → word * 2 ^ width + c < 2 ^ (width * suc k)
+word_grows width k word c small lt =
     let more : width * suc k ≡ width * k + width = omega arith in
-    let shifted : word * 2 ^ width % 2 ^ 64 ≡ word * 2 ^ width = shl_whole word (width * k) width 64 small (omega arith) in
-    let joined : bit_or (word * 2 ^ width) c ≡ word * 2 ^ width + c = or_shifted word width c lt in
     let power : 2 ^ (width * suc k) ≡ 2 ^ (width * k) * 2 ^ width = ap (λ n. 2 ^ n) more ∙ pow-add 2 (width * k) width in
     let below_power : word * 2 ^ width + c < 2 ^ width * 2 ^ (width * k) = mul-add-lt word (2 ^ width) c (2 ^ (width * k)) small lt in
-    (rw shifted joined, rw (power, mul_comm (2 ^ (width * k)) (2 ^ width)) below_power)
+    rw (power, mul_comm (2 ^ (width * k)) (2 ^ width)) below_power
 
 -- one more number in the word of those that follow it
-pub base_put : (width : ℕ) (bases : List ℕ) (old i word c d : ℕ) → width * length bases ≤ 64 → old ≡ suc i → old ≤ length bases → word < 2 ^ (width * (length bases - old))
+pub base_put : (width : ℕ) (bases : List ℕ) (old i word c d : ℕ) → old ≡ suc i → old ≤ length bases → word < 2 ^ (width * (length bases - old))
     → word ≡ row_word width (drop old bases) → c ≡ get_or bases i d → c < 2 ^ width
-    → (bit_or (word * 2 ^ width % 2 ^ 64) c < 2 ^ (width * (length bases - i))) × (bit_or (word * 2 ^ width % 2 ^ 64) c ≡ row_word width (drop i bases))
-base_put width bases old i word c d most e in_list small was here base =
+    → (word * 2 ^ width + c < 2 ^ (width * (length bases - i))) × (word * 2 ^ width + c ≡ row_word width (drop i bases))
+base_put width bases old i word c d e in_list small was here base =
     let in_list' : i < length bases = omega arith in
     let more : suc (length bases - old) ≡ length bases - i = omega arith in
-    let few : width * suc (length bases - old) ≤ 64 = le_trans (mul-le-mul_left width (let le : suc (length bases - old) ≤ length bases = omega arith in le)) most in
-    let grown = word_grows width (length bases - old) word c small few base in
+    let grown = word_grows width (length bases - old) word c small base in
     let was' : word ≡ row_word width (drop (suc i) bases) = rw e at was in
     let front = drop-cons bases i d in_list' in
-    let small' : word * 2 ^ width + c < 2 ^ (width * (length bases - i)) = rw more at grown.1 in
-    (rw grown.0 small', grown.0 ∙ rw (front, ← was', here) refl)
+    (rw more at grown, rw (front, ← was', here) refl)
+
+-- a word of fewer numbers than fit into it has room for one more
+pub room_for_one : (width k most word : ℕ) → suc k ≤ most → width * most ≤ 64 → word < 2 ^ (width * k) → word < 2 ^ (64 - width)
+room_for_one width k most word few fits small =
+    let all : width * suc k ≤ 64 = le_trans (mul-le-mul_left width few) fits in
+    let more : width * suc k ≡ width * k + width = omega arith in
+    let le : width * k ≤ 64 - width = omega arith in
+    let powers = pow_mono le in
+    omega arith
+
+-- the numbers in front are classes, and those behind them
+are_classes_in_front : (n : ℕ) (bases : List ℕ) → AreClasses bases → AreClasses (take n bases)
+are_classes_in_front zero bases h i = omega arith
+are_classes_in_front (suc n) [] h i = omega arith
+are_classes_in_front (suc n) (c ∷ cs) h zero = h 0
+are_classes_in_front (suc n) (c ∷ cs) h (suc i) = are_classes_in_front n cs (λ j. h (suc j)) i
+
+are_classes_behind : (n : ℕ) (bases : List ℕ) → AreClasses bases → AreClasses (drop n bases)
+are_classes_behind zero bases h = h
+are_classes_behind (suc n) [] h = h
+are_classes_behind (suc n) (c ∷ cs) h = are_classes_behind n cs (λ j. h (suc j))
+
+-- all are classes, where those in front are and those behind them
+pub are_classes_both : (n : ℕ) (bases : List ℕ) → AreClasses (take n bases) → AreClasses (drop n bases) → AreClasses bases
+are_classes_both zero bases front behind i = behind i
+are_classes_both (suc n) [] front behind i = behind i
+are_classes_both (suc n) (c ∷ cs) front behind zero = front 0
+are_classes_both (suc n) (c ∷ cs) front behind (suc i) = are_classes_both n cs (λ j. front (suc j)) behind i
 
 -- each number from there on is a class
-pub classes_grow : (bases : List ℕ) (old i c d : ℕ) → old ≡ suc i → c ≡ get_or bases i d → c < 255 → old ≤ length bases
-    → ((j : ℕ) → old ≤ j → get_or bases j 0 < 255) → (j : ℕ) → i ≤ j → get_or bases j 0 < 255
+pub classes_grow : (bases : List ℕ) (old i c d : ℕ) → old ≡ suc i → c ≡ get_or bases i d → c < classes → old ≤ length bases
+    → ((j : ℕ) → old ≤ j → get_or bases j 0 < classes) → (j : ℕ) → i ≤ j → get_or bases j 0 < classes
 classes_grow bases old i c d e here base in_list rest j from =
     elim (cases_lt i j) [
       | inl lt ↦ rest j (omega arith)
@@ -55,9 +79,6 @@ classes_grow bases old i c d e here base in_list rest j from =
 at_most : (m n : ℕ) → m ≤ n → nat_le m n ≡ true
 at_most m n h = grind (arith, nat_tests)
 
-not_below : (bound n : ℕ) → bound ≤ n → nat_lt n bound ≡ false
-not_below bound n h = grind (arith, nat_tests)
-
 -- one more base, read before those that are left
 joined : (done : List ℕ) (c : ℕ) (left : Option (List ℕ))
     → option_map (λ more. (done ++ c ∷ []) ++ more) left ≡ option_map (λ more. done ++ more) (with_two (λ b bs. b ∷ bs) (Some c) left)
@@ -65,50 +86,89 @@ joined done c None = refl
 joined done c (Some more) = ap Some (append_assoc done (c ∷ []) more)
 
 -- a class that is read goes to the end of those that were read
-pub base_read : (width left n word c : ℕ) (done all : List ℕ) (o : Option (List ℕ)) → left ≡ suc n → c ≡ word % 2 ^ width → c < 255 → all ≡ done ++ c ∷ []
-    → option_map (λ more. done ++ more) (classes_in width left word) ≡ o → option_map (λ more. all ++ more) (classes_in width n (word / 2 ^ width)) ≡ o
-base_read width left n word c done all o e low lt grown was =
+pub base_read : (width left n word low above c : ℕ) (done all : List ℕ) (o : Option (List ℕ)) → left ≡ suc n → low ≡ word % 2 ^ width → above ≡ word / 2 ^ width
+    → below classes low ≡ Some c → all ≡ done ++ c ∷ []
+    → option_map (λ more. done ++ more) (classes_in width left word) ≡ o → option_map (λ more. all ++ more) (classes_in width n above) ≡ o
+base_read width left n word low above c done all o e is_low is_above class grown was =
     let now : option_map (λ more. done ++ more) (classes_in width (suc n) word) ≡ o = rw e at was in
-    let read : below 255 (word % 2 ^ width) ≡ Some c = rw (← low) (below_gives _ c lt) in
+    let read : below classes (word % 2 ^ width) ≡ Some c = rw is_low at class in
     let now' : option_map (λ more. done ++ more) (with_two (λ b bs. b ∷ bs) (Some c) (classes_in width n (word / 2 ^ width))) ≡ o = rw read at now in
-    rw grown (joined done c (classes_in width n (word / 2 ^ width)) ∙ now')
+    rw (grown, is_above) (joined done c (classes_in width n (word / 2 ^ width)) ∙ now')
 
--- a number that is no class ends it
-pub base_refused : (width left n word : ℕ) (done : List ℕ) (o : Option (List ℕ)) → left ≡ suc n → 255 ≤ word % 2 ^ width
-    → option_map (λ more. done ++ more) (classes_in width left word) ≡ o → None ≡ o
-base_refused width left n word done o e ge was =
-    let now : option_map (λ more. done ++ more) (classes_in width (suc n) word) ≡ o = rw e at was in
-    let test = not_below 255 (word % 2 ^ width) ge in
-    rw test at now
+-- what holds of a success, where what holds of an error is false
+pub ok_of : {A E P Q : Type 0} (r : Result A E) → OnOk r P → OnErr r Q → ¬ Q → P
+ok_of (Ok x) ok full none = ok
+ok_of (Err e) ok full none = absurd (none full)
+
+-- a row of classes, read before the rows that are left
+joined_rows : (done row : List ℕ) (left : Option (List ℕ))
+    → option_map (λ more. (done ++ row) ++ more) left ≡ option_map (λ more. done ++ more) (with_two (λ front rest. front ++ rest) (Some row) left)
+joined_rows done row None = refl
+joined_rows done row (Some more) = ap Some (append_assoc done row more)
+
+-- no more is left out than there is
+less_min : (left each : ℕ) → left - min left each ≡ left - each
+less_min left each =
+    elim (cases_lt left each) [
+      | inl lt ↦ let all = min-eq_left (let le : left ≤ each = omega arith in le) in rw all (omega arith)
+      | inr ge ↦ let each_of = min-eq_right ge in rw each_of refl
+    ]
+
+-- as many as were asked for are read
+classes_in_length : (width n word : ℕ) (row : List ℕ) → classes_in width n word ≡ Some row → length row ≡ n
+classes_in_length width zero word row e = let same : [] ≡ row = cc in rw (← same) refl
+classes_in_length width (suc n) word row e = elim (below classes (word % 2 ^ width)) as (λ first. with_two (λ c cs. c ∷ cs) first (classes_in width n (word / 2 ^ width)) ≡ Some row → length row ≡ suc n) [
+  | None ↦ λ e. absurd (cc)
+  | Some c ↦ λ e. elim (classes_in width n (word / 2 ^ width)) as (λ rest. classes_in width n (word / 2 ^ width) ≡ rest → with_two (λ c cs. c ∷ cs) (Some c) rest ≡ Some row → length row ≡ suc n) [
+    | None ↦ λ _ e. absurd (cc)
+    | Some cs ↦ λ here e.
+        let same : c ∷ cs ≡ row = cc in
+        rw (← same) (ap suc (classes_in_length width n (word / 2 ^ width) cs here))
+  ] refl e
+] e
+
+-- a row that is read goes behind the classes that were read
+pub row_read : (width each left here word : ℕ) (words all_words done all : List ℕ) (o : Option (List ℕ)) → here ≡ min left each → all_words ≡ word ∷ words
+    → option_map (λ row. done ++ row) (classes_in width here word) ≡ Some all
+    → option_map (λ more. done ++ more) (classes_of_words width each left all_words) ≡ o
+    → (length all + (left - here) ≡ length done + left) × (option_map (λ more. all ++ more) (classes_of_words width each (left - here) words) ≡ o)
+row_read width each left here word words all_words done all o is_here is_all grown was =
+    let within : here ≤ left = rw is_here (min-le_left left each) in
+    let left_over : left - here ≡ left - each = rw is_here (less_min left each) in
+    let was' : option_map (λ more. done ++ more) (with_two (λ front rest. front ++ rest) (classes_in width here word) (classes_of_words width each (left - each) words)) ≡ o = rw is_here (rw is_all at was) in
+    elim (classes_in width here word) as (λ read. classes_in width here word ≡ read → option_map (λ row. done ++ row) read ≡ Some all
+    → option_map (λ more. done ++ more) (with_two (λ front rest. front ++ rest) read (classes_of_words width each (left - each) words)) ≡ o
+    → (length all + (left - here) ≡ length done + left) × (option_map (λ more. all ++ more) (classes_of_words width each (left - here) words) ≡ o)) [
+      | Some row ↦ λ read grown was.
+          let same : done ++ row ≡ all = cc in
+          let long : length all ≡ length done + here = rw (← same) (length-append done row ∙ ap (λ n. length done + n) (classes_in_length width here word row read)) in
+          (omega arith, rw (left_over, ← same) (joined_rows done row (classes_of_words width each (left - each) words) ∙ was))
+      | None ↦ λ read grown was. absurd (cc)
+    ] refl grown was'
 
 -- as many bases as there may be
-pub bases_at_most : (count word : ℕ) → count ≤ 8 → bases_at count word ≡ classes_in 8 count word
-bases_at_most count word h = let test = at_most count 8 h in rw test refl
-
--- what holds of a success, where no error was given
-pub on_ok : {A E P : Type 0} (r : Result A E) → OnOk r P → is_err r ≡ false → P
-on_ok (Ok x) h test = h
-on_ok (Err e) h test = absurd (cc)
+pub bases_at_most : (count : ℕ) (words : List ℕ) → count ≤ 8 → bases_at count words ≡ classes_of_words base_bits bases_a_word count words
+bases_at_most count words h = let test = at_most count 8 h in rw test refl
 
 -- the fields of word 0 are read back
-head_back : (k s t n : ℕ) → k < 2 ^ 8 → s < 2 ^ 16 → t < 2 ^ 16 → n < 2 ^ 16
+head_back : (k s t n : ℕ) → k < 2 ^ operation_bits → s < 2 ^ subject_bits → t < 2 ^ second_bits → n < 2 ^ attribute_bits
     → heading_at (heading k s t n) ≡ record { kind = k; subject = s; second = t; name = n }
 head_back k s t n k_fits s_fits t_fits n_fits =
-    let top = 0 * 2 ^ 16 + n in
-    let high = top * 2 ^ 16 + t in
-    let rest = high * 2 ^ 16 + s in
-    let word = rest * 2 ^ 8 + k in
-    let first : word / 2 ^ 8 ≡ rest = shr_high rest 8 k k_fits in
-    let second : word / 2 ^ 24 ≡ high = sym (shr-shr word 8 16) ∙ ap (λ m. m / 2 ^ 16) first ∙ shr_high high 16 s s_fits in
-    let third : word / 2 ^ 40 ≡ top = sym (shr-shr word 24 16) ∙ ap (λ m. m / 2 ^ 16) second ∙ shr_high top 16 t t_fits in
-    let make : ℕ → ℕ → ℕ → ℕ → Heading = λ a b c d. record { kind = a; subject = b; second = c; name = d } in
-    ap (λ a. make a (word / 2 ^ 8 % 2 ^ 16) (word / 2 ^ 24 % 2 ^ 16) (word / 2 ^ 40 % 2 ^ 16)) (mod_low rest 8 k k_fits)
-    ∙ ap (λ b. make k b (word / 2 ^ 24 % 2 ^ 16) (word / 2 ^ 40 % 2 ^ 16)) (ap (λ m. m % 2 ^ 16) first ∙ mod_low high 16 s s_fits)
-    ∙ ap (λ c. make k s c (word / 2 ^ 40 % 2 ^ 16)) (ap (λ m. m % 2 ^ 16) second ∙ mod_low top 16 t t_fits)
-    ∙ ap (λ d. make k s t d) (ap (λ m. m % 2 ^ 16) third ∙ mod_low 0 16 n n_fits)
+    let top = 0 * 2 ^ attribute_bits + n in
+    let high = top * 2 ^ second_bits + t in
+    let rest = high * 2 ^ subject_bits + s in
+    rw (
+      mod_low rest operation_bits k k_fits,
+      shr_high rest operation_bits k k_fits,
+      mod_low high subject_bits s s_fits,
+      shr_high high subject_bits s s_fits,
+      mod_low top second_bits t t_fits,
+      shr_high top second_bits t t_fits,
+      mod_low 0 attribute_bits n n_fits,
+    ) refl
 
 -- classes are read back, where so many bits hold each
-classes_back : (width : ℕ) → 255 ≤ 2 ^ width → (bases : List ℕ) → AreClasses bases → classes_in width (length bases) (row_word width bases) ≡ Some bases
+classes_back : (width : ℕ) → classes ≤ 2 ^ width → (bases : List ℕ) → AreClasses bases → classes_in width (length bases) (row_word width bases) ≡ Some bases
 classes_back width wide [] h = refl
 classes_back width wide (c ∷ cs) h =
     let small : c < 2 ^ width = omega (arith, h 0) in
@@ -116,38 +176,57 @@ classes_back width wide (c ∷ cs) h =
     let high = shr_high (row_word width cs) width c small in
     rw (low, high, below_gives _ c (h 0), classes_back width wide cs (λ i. h (suc i))) refl
 
-bases_back : (bases : List ℕ) → IsBases bases → bases_at (length bases) (bases_word bases) ≡ Some bases
-bases_back bases h = bases_at_most (length bases) (bases_word bases) h.0 ∙ classes_back 8 (omega arith) bases h.1
+-- and from several words, where so many a word hold them all
+rows_back : (width each : ℕ) → classes ≤ 2 ^ width → (words : ℕ) (bases : List ℕ) → AreClasses bases → length bases ≤ words * each
+    → classes_of_words width each (length bases) (row_words width each words bases) ≡ Some bases
+rows_back width each wide zero [] h fits = refl
+rows_back width each wide zero (c ∷ cs) h fits = absurd (omega arith)
+rows_back width each wide (suc words) bases h fits =
+    let front : classes_in width (length (take each bases)) (row_word width (take each bases)) ≡ Some (take each bases) = classes_back width wide (take each bases) (are_classes_in_front each bases h) in
+    let here : min (length bases) each ≡ length (take each bases) = sym (length-take each bases ∙ min_comm each (length bases)) in
+    let left : length bases - each ≡ length (drop each bases) = sym (length-drop each bases) in
+    let fits' : length (drop each bases) ≤ words * each = let left' = left in omega arith in
+    let behind = rows_back width each wide words (drop each bases) (are_classes_behind each bases h) fits' in
+    rw (here, front, left, behind) (ap Some (take-append-drop each bases))
+
+bases_back : (bases : List ℕ) → IsBases bases → bases_at (length bases) (bases_words bases) ≡ Some bases
+bases_back bases h =
+    bases_at_most (length bases) (bases_words bases) h.0 ∙ rows_back base_bits bases_a_word (omega arith) 3 bases h.1 (omega (arith, h.0))
 
 value_back : (v : value.Value) → IsValue v → value_at (word_of v) ≡ Some v
 value_back v h = (word_exact (word_of v) v).1 (h, refl)
 
+-- the words behind word 0
+abbrev pub behind : List ℕ → List ℕ
+behind words = get_or words 1 0 ∷ get_or words 2 0 ∷ get_or words 3 0 ∷ []
+
 -- the operation that the words are read as, before they are compared with its words
 abbrev pub op_in : List ℕ → Option op.Op
-op_in words = op_at (heading_at (get_or words 0 0)) (get_or words 1 0)
+op_in words = op_at (heading_at (get_or words 0 0)) (behind words)
 
 -- what is read from a word 0 with these fields
-head_read : (k s t n first : ℕ) (o : op.Op) → k < 2 ^ 8 → s < 2 ^ 16 → t < 2 ^ 16 → n < 2 ^ 16
-    → op_at (record { kind = k; subject = s; second = t; name = n }) first ≡ Some o → op_in (heading k s t n ∷ first ∷ 0 ∷ 0 ∷ []) ≡ Some o
-head_read k s t n first o k_fits s_fits t_fits n_fits read = ap (λ h. op_at h first) (head_back k s t n k_fits s_fits t_fits n_fits) ∙ read
+head_read : (k s t n : ℕ) (words : List ℕ) (o : op.Op) → k < 2 ^ operation_bits → s < 2 ^ subject_bits → t < 2 ^ second_bits → n < 2 ^ attribute_bits
+    → op_at (record { kind = k; subject = s; second = t; name = n }) (behind (heading k s t n ∷ words)) ≡ Some o → op_in (heading k s t n ∷ words) ≡ Some o
+head_read k s t n words o k_fits s_fits t_fits n_fits read =
+    ap (λ h. op_at h (behind (heading k s t n ∷ words))) (head_back k s t n k_fits s_fits t_fits n_fits) ∙ read
 
 -- an operation's words are read as that operation
 op_back : (o : op.Op) → IsOp o → op_in (words_of o) ≡ Some o
-op_back (ops.NewClass c bases) h = head_read 1 c (length bases) 0 (bases_word bases) _ (omega arith) (omega arith) (omega (arith, h.1.0)) (omega arith) (rw (below_gives _ c h.0, bases_back bases h.1) refl)
-op_back (ops.TypeSet c n v) h = head_read 2 c 0 n (word_of v) _ (omega arith) (omega arith) (omega arith) (omega arith) (rw (below_gives _ c h.0, below_gives _ n h.1, value_back v h.2) refl)
-op_back (ops.TypeDel c n) h = head_read 3 c 0 n 0 _ (omega arith) (omega arith) (omega arith) (omega arith) (rw (below_gives _ c h.0, below_gives _ n h.1) refl)
-op_back (ops.SetBases c bases) h = head_read 4 c (length bases) 0 (bases_word bases) _ (omega arith) (omega arith) (omega (arith, h.1.0)) (omega arith) (rw (below_gives _ c h.0, bases_back bases h.1) refl)
-op_back (ops.New c) h = head_read 5 c 0 0 0 _ (omega arith) (omega arith) (omega arith) (omega arith) (rw (below_gives _ c h) refl)
-op_back (ops.Set o n v) h = head_read 6 o 0 n (word_of v) _ (omega arith) (omega arith) (omega arith) (omega arith) (rw (below_gives _ o h.0, below_gives _ n h.1, value_back v h.2) refl)
-op_back (ops.Del o n) h = head_read 7 o 0 n 0 _ (omega arith) (omega arith) (omega arith) (omega arith) (rw (below_gives _ o h.0, below_gives _ n h.1) refl)
-op_back (ops.SetClass o c) h = head_read 8 o c 0 0 _ (omega arith) (omega arith) (omega arith) (omega arith) (rw (below_gives _ o h.0, below_gives _ c h.1) refl)
-op_back (ops.Share o q) h = head_read 9 o q 0 0 _ (omega arith) (omega arith) (omega arith) (omega arith) (rw (below_gives _ o h.0, below_gives _ q h.1) refl)
-op_back (ops.Get o n) h = head_read 10 o 0 n 0 _ (omega arith) (omega arith) (omega arith) (omega arith) (rw (below_gives _ o h.0, below_gives _ n h.1) refl)
-op_back (ops.TypeGet c n) h = head_read 11 c 0 n 0 _ (omega arith) (omega arith) (omega arith) (omega arith) (rw (below_gives _ c h.0, below_gives _ n h.1) refl)
-op_back (ops.Super k o n) h = head_read 12 o k n 0 _ (omega arith) (omega arith) (omega arith) (omega arith) (rw (below_gives _ k h.0, below_gives _ o h.1, below_gives _ n h.2) refl)
-op_back (ops.Special o n) h = head_read 13 o 0 n 0 _ (omega arith) (omega arith) (omega arith) (omega arith) (rw (below_gives _ o h.0, below_gives _ n h.1) refl)
-op_back (ops.ClassOf o) h = head_read 14 o 0 0 0 _ (omega arith) (omega arith) (omega arith) (omega arith) (rw (below_gives _ o h) refl)
-op_back (ops.Mro c) h = head_read 15 c 0 0 0 _ (omega arith) (omega arith) (omega arith) (omega arith) (rw (below_gives _ c h) refl)
+op_back (ops.NewClass c bases) h = head_read 1 c (length bases) 0 (bases_words bases) _ (omega arith) (omega (arith, h.0)) (omega (arith, h.1.0)) (omega arith) (rw (below_gives _ c h.0, bases_back bases h.1) refl)
+op_back (ops.TypeSet c n v) h = head_read 2 c 0 n (word_of v ∷ 0 ∷ 0 ∷ []) _ (omega arith) (omega (arith, h.0)) (omega arith) (omega (arith, h.1)) (rw (below_gives _ c h.0, below_gives _ n h.1, value_back v h.2) refl)
+op_back (ops.TypeDel c n) h = head_read 3 c 0 n (0 ∷ 0 ∷ 0 ∷ []) _ (omega arith) (omega (arith, h.0)) (omega arith) (omega (arith, h.1)) (rw (below_gives _ c h.0, below_gives _ n h.1) refl)
+op_back (ops.SetBases c bases) h = head_read 4 c (length bases) 0 (bases_words bases) _ (omega arith) (omega (arith, h.0)) (omega (arith, h.1.0)) (omega arith) (rw (below_gives _ c h.0, bases_back bases h.1) refl)
+op_back (ops.New c) h = head_read 5 c 0 0 (0 ∷ 0 ∷ 0 ∷ []) _ (omega arith) (omega arith) (omega arith) (omega arith) (rw (below_gives _ c h) refl)
+op_back (ops.Set o n v) h = head_read 6 o 0 n (word_of v ∷ 0 ∷ 0 ∷ []) _ (omega arith) (omega (arith, h.0)) (omega arith) (omega (arith, h.1)) (rw (below_gives _ o h.0, below_gives _ n h.1, value_back v h.2) refl)
+op_back (ops.Del o n) h = head_read 7 o 0 n (0 ∷ 0 ∷ 0 ∷ []) _ (omega arith) (omega (arith, h.0)) (omega arith) (omega (arith, h.1)) (rw (below_gives _ o h.0, below_gives _ n h.1) refl)
+op_back (ops.SetClass o c) h = head_read 8 o c 0 (0 ∷ 0 ∷ 0 ∷ []) _ (omega arith) (omega (arith, h.0)) (omega (arith, h.1)) (omega arith) (rw (below_gives _ o h.0, below_gives _ c h.1) refl)
+op_back (ops.Share o q) h = head_read 9 o q 0 (0 ∷ 0 ∷ 0 ∷ []) _ (omega arith) (omega (arith, h.0)) (omega (arith, h.1)) (omega arith) (rw (below_gives _ o h.0, below_gives _ q h.1) refl)
+op_back (ops.Get o n) h = head_read 10 o 0 n (0 ∷ 0 ∷ 0 ∷ []) _ (omega arith) (omega (arith, h.0)) (omega arith) (omega (arith, h.1)) (rw (below_gives _ o h.0, below_gives _ n h.1) refl)
+op_back (ops.TypeGet c n) h = head_read 11 c 0 n (0 ∷ 0 ∷ 0 ∷ []) _ (omega arith) (omega (arith, h.0)) (omega arith) (omega (arith, h.1)) (rw (below_gives _ c h.0, below_gives _ n h.1) refl)
+op_back (ops.Super k o n) h = head_read 12 o k n (0 ∷ 0 ∷ 0 ∷ []) _ (omega arith) (omega (arith, h.1)) (omega (arith, h.0)) (omega (arith, h.2)) (rw (below_gives _ k h.0, below_gives _ o h.1, below_gives _ n h.2) refl)
+op_back (ops.Special o n) h = head_read 13 o 0 n (0 ∷ 0 ∷ 0 ∷ []) _ (omega arith) (omega (arith, h.0)) (omega arith) (omega (arith, h.1)) (rw (below_gives _ o h.0, below_gives _ n h.1) refl)
+op_back (ops.ClassOf o) h = head_read 14 o 0 0 (0 ∷ 0 ∷ 0 ∷ []) _ (omega arith) (omega arith) (omega arith) (omega arith) (rw (below_gives _ o h) refl)
+op_back (ops.Mro c) h = head_read 15 c 0 0 (0 ∷ 0 ∷ 0 ∷ []) _ (omega arith) (omega arith) (omega arith) (omega arith) (rw (below_gives _ c h) refl)
 
 op_of_words : (o : op.Op) (words : List ℕ) → HasWords o words → op_in words ≡ Some o
 op_of_words o words h = let P : List ℕ → Type 0 = λ w. op_in w ≡ Some o in subst P h.1 (op_back o h.0)

@@ -9,6 +9,7 @@ use Rattle.std.proofs.lemmas.Nat.{shr_high, mod_low, div-add-mod'}
 use Rattle.at_value.specs.declared.value.Value as value
 use Rattle.at_value.specs.declared.value.Value.TheVariants as values
 use Rattle.at_value.specs.Parts.{Parts, part, held, IsPart}
+use Rattle.at_value.specs.Widths.{names, objects, classes, functions, kind_bits, integer_bits, part_bits}
 use Rattle.at_value.specs.Words.{IsValue, word_of, HasWord}
 use Rattle.at_value.specs.Reading.{below, parts_at, value_at_kind, value_at}
 
@@ -51,11 +52,11 @@ held-part : (n : ℕ) → held (part n) ≡ n
 held-part zero = refl
 held-part (suc f) = refl
 
-held_within : (o : Option ℕ) → IsPart o → held o < 1025
+held_within : (o : Option ℕ) → IsPart o → held o < suc functions
 held_within None h = omega arith
 held_within (Some f) h = omega arith
 
-IsPart-part : (n : ℕ) → n < 1025 → IsPart (part n)
+IsPart-part : (n : ℕ) → n < suc functions → IsPart (part n)
 IsPart-part zero h = tt
 IsPart-part (suc f) h = omega arith
 
@@ -65,60 +66,60 @@ bits_within (pos n) h = grind arith
 bits_within (negsuc n) h = omega arith
 
 -- the parts of a property, in one number and back
-parts_back : (p : Parts) → IsPart p.get × IsPart p.set × IsPart p.del → parts_at ((held p.del * 2 ^ 16 + held p.set) * 2 ^ 16 + held p.get) ≡ Some p
+parts_back : (p : Parts) → IsPart p.get × IsPart p.set × IsPart p.del → parts_at ((held p.del * 2 ^ part_bits + held p.set) * 2 ^ part_bits + held p.get) ≡ Some p
 parts_back p h =
     let g = held_within p.get h.0 in
     let s = held_within p.set h.1 in
     let d = held_within p.del h.2 in
-    let get_small : held p.get < 2 ^ 16 = omega arith in
-    let set_small : held p.set < 2 ^ 16 = omega arith in
-    let low = mod_low (held p.del * 2 ^ 16 + held p.set) 16 (held p.get) get_small in
-    let high = shr_high (held p.del * 2 ^ 16 + held p.set) 16 (held p.get) get_small in
-    let low' = mod_low (held p.del) 16 (held p.set) set_small in
-    let high' = shr_high (held p.del) 16 (held p.set) set_small in
+    let get_small : held p.get < 2 ^ part_bits = omega arith in
+    let set_small : held p.set < 2 ^ part_bits = omega arith in
+    let low = mod_low (held p.del * 2 ^ part_bits + held p.set) part_bits (held p.get) get_small in
+    let high = shr_high (held p.del * 2 ^ part_bits + held p.set) part_bits (held p.get) get_small in
+    let low' = mod_low (held p.del) part_bits (held p.set) set_small in
+    let high' = shr_high (held p.del) part_bits (held p.set) set_small in
     rw (low, high, low', high', below_tells _ _ g, below_tells _ _ s, below_tells _ _ d, part-held p.get, part-held p.set, part-held p.del) refl
 
-parts_made : (n : ℕ) (p : Parts) → parts_at n ≡ Some p → (IsPart p.get × IsPart p.set × IsPart p.del) × ((held p.del * 2 ^ 16 + held p.set) * 2 ^ 16 + held p.get ≡ n)
+parts_made : (n : ℕ) (p : Parts) → parts_at n ≡ Some p → (IsPart p.get × IsPart p.set × IsPart p.del) × ((held p.del * 2 ^ part_bits + held p.set) * 2 ^ part_bits + held p.get ≡ n)
 parts_made n p e =
-    let P : Parts → Type 0 = λ q. (IsPart q.get × IsPart q.set × IsPart q.del) × ((held q.del * 2 ^ 16 + held q.set) * 2 ^ 16 + held q.get ≡ n) in
+    let P : Parts → Type 0 = λ q. (IsPart q.get × IsPart q.set × IsPart q.del) × ((held q.del * 2 ^ part_bits + held q.set) * 2 ^ part_bits + held q.get ≡ n) in
     chosen _ _ None p e
     (λ all made.
     let two = both _ _ all in
     let one = both _ _ two.0 in
-    let get_part = IsPart-part (n % 2 ^ 16) (below_true _ _ one.0) in
-    let set_part = IsPart-part (n / 2 ^ 16 % 2 ^ 16) (below_true _ _ one.1) in
-    let del_part = IsPart-part (n / 2 ^ 16 / 2 ^ 16) (below_true _ _ two.1) in
-    let read : Parts = record { get = part (n % 2 ^ 16); set = part (n / 2 ^ 16 % 2 ^ 16); del = part (n / 2 ^ 16 / 2 ^ 16) } in
+    let get_part = IsPart-part (n % 2 ^ part_bits) (below_true _ _ one.0) in
+    let set_part = IsPart-part (n / 2 ^ part_bits % 2 ^ part_bits) (below_true _ _ one.1) in
+    let del_part = IsPart-part (n / 2 ^ part_bits / 2 ^ part_bits) (below_true _ _ two.1) in
+    let read : Parts = record { get = part (n % 2 ^ part_bits); set = part (n / 2 ^ part_bits % 2 ^ part_bits); del = part (n / 2 ^ part_bits / 2 ^ part_bits) } in
     let same : read ≡ p = cc in
-    let number : (held read.del * 2 ^ 16 + held read.set) * 2 ^ 16 + held read.get ≡ n =
-    rw (held-part (n % 2 ^ 16), held-part (n / 2 ^ 16 % 2 ^ 16), held-part (n / 2 ^ 16 / 2 ^ 16), div-add-mod' (n / 2 ^ 16) (2 ^ 16)) (div-add-mod' n (2 ^ 16))
+    let number : (held read.del * 2 ^ part_bits + held read.set) * 2 ^ part_bits + held read.get ≡ n =
+    rw (held-part (n % 2 ^ part_bits), held-part (n / 2 ^ part_bits % 2 ^ part_bits), held-part (n / 2 ^ part_bits / 2 ^ part_bits), div-add-mod' (n / 2 ^ part_bits) (2 ^ part_bits)) (div-add-mod' n (2 ^ part_bits))
     in
     subst P same ((get_part, set_part, del_part), number))
     (λ _ none. absurd (cc))
 
 -- a value's kind, and the number above it in the word
-kind_and_rest : (w r k : ℕ) → k < 2 ^ 4 → r * 2 ^ 4 + k ≡ w → (w % 2 ^ 4 ≡ k) × (w / 2 ^ 4 ≡ r)
-kind_and_rest w r k lt e = rw (← e) (mod_low r 4 k lt, shr_high r 4 k lt)
+kind_and_rest : (w r k : ℕ) → k < 2 ^ kind_bits → r * 2 ^ kind_bits + k ≡ w → (w % 2 ^ kind_bits ≡ k) × (w / 2 ^ kind_bits ≡ r)
+kind_and_rest w r k lt e = rw (← e) (mod_low r kind_bits k lt, shr_high r kind_bits k lt)
 
 -- the word of a value in range is read as that value
-word_back : (v : value.Value) → IsValue v → (w : ℕ) → word_of v ≡ w → value_at_kind (w % 2 ^ 4) (w / 2 ^ 4) ≡ Some v
+word_back : (v : value.Value) → IsValue v → (w : ℕ) → word_of v ≡ w → value_at_kind (w % 2 ^ kind_bits) (w / 2 ^ kind_bits) ≡ Some v
 word_back values.Nothing h w e = let s = kind_and_rest w 0 1 (omega arith) (omega arith) in rw (s.0, s.1) refl
 word_back (values.Int i) h w e =
     let s = kind_and_rest w (cast_unsigned w32 i) 2 (omega arith) (omega arith) in
-    rw (s.0, s.1, below_gives (2 ^ 32) (cast_unsigned w32 i) (bits_within i h), to_z-of_z w32 i h) refl
-word_back (values.Text n) h w e = let s = kind_and_rest w n 3 (omega arith) (omega arith) in rw (s.0, s.1, below_gives 4096 n h) refl
-word_back (values.Func f) h w e = let s = kind_and_rest w f 4 (omega arith) (omega arith) in rw (s.0, s.1, below_gives 1024 f h) refl
+    rw (s.0, s.1, below_gives (2 ^ integer_bits) (cast_unsigned w32 i) (bits_within i h), to_z-of_z w32 i h) refl
+word_back (values.Text n) h w e = let s = kind_and_rest w n 3 (omega arith) (omega arith) in rw (s.0, s.1, below_gives names n h) refl
+word_back (values.Func f) h w e = let s = kind_and_rest w f 4 (omega arith) (omega arith) in rw (s.0, s.1, below_gives functions f h) refl
 word_back (values.Prop p) h w e =
-    let s = kind_and_rest w ((held p.del * 2 ^ 16 + held p.set) * 2 ^ 16 + held p.get) 5 (omega arith) (omega arith) in
+    let s = kind_and_rest w ((held p.del * 2 ^ part_bits + held p.set) * 2 ^ part_bits + held p.get) 5 (omega arith) (omega arith) in
     rw (s.0, s.1, parts_back p h) refl
-word_back (values.Static f) h w e = let s = kind_and_rest w f 6 (omega arith) (omega arith) in rw (s.0, s.1, below_gives 1024 f h) refl
-word_back (values.ClassM f) h w e = let s = kind_and_rest w f 7 (omega arith) (omega arith) in rw (s.0, s.1, below_gives 1024 f h) refl
-word_back (values.Class c) h w e = let s = kind_and_rest w c 8 (omega arith) (omega arith) in rw (s.0, s.1, below_gives 255 c h) refl
-word_back (values.Obj o) h w e = let s = kind_and_rest w o 9 (omega arith) (omega arith) in rw (s.0, s.1, below_gives 4096 o h) refl
+word_back (values.Static f) h w e = let s = kind_and_rest w f 6 (omega arith) (omega arith) in rw (s.0, s.1, below_gives functions f h) refl
+word_back (values.ClassM f) h w e = let s = kind_and_rest w f 7 (omega arith) (omega arith) in rw (s.0, s.1, below_gives functions f h) refl
+word_back (values.Class c) h w e = let s = kind_and_rest w c 8 (omega arith) (omega arith) in rw (s.0, s.1, below_gives classes c h) refl
+word_back (values.Obj o) h w e = let s = kind_and_rest w o 9 (omega arith) (omega arith) in rw (s.0, s.1, below_gives objects o h) refl
 
 -- what is read is a value in range, with that word
 abbrev IsRead : ℕ → ℕ → value.Value → Type 0
-IsRead kind rest v = IsValue v × (word_of v ≡ rest * 2 ^ 4 + kind)
+IsRead kind rest v = IsValue v × (word_of v ≡ rest * 2 ^ kind_bits + kind)
 
 read_made : (make : ℕ → value.Value) (bound kind rest : ℕ) (v : value.Value)
     → (rest < bound → IsRead kind rest (make rest)) → option_map make (below bound rest) ≡ Some v → IsRead kind rest v
@@ -144,28 +145,28 @@ word_read kind rest v e =
     (λ is made. let k = test_true kind 1 is in read_made (λ _. values.Nothing) 1 kind rest v (λ lt. (tt, omega arith)) made)
     (λ _ e.
     chosen (kind == 2) _ _ v e
-    (λ is made. let k = test_true kind 2 is in read_made (λ n. values.Int (cast_signed w32 n)) (2 ^ 32) kind rest v (λ lt. (sfits_to_z {w = w32} {n = rest} (record { fits = lt }), let bits = of_z-to_z w32 rest lt in omega arith)) made)
+    (λ is made. let k = test_true kind 2 is in read_made (λ n. values.Int (cast_signed w32 n)) (2 ^ integer_bits) kind rest v (λ lt. (sfits_to_z {w = w32} {n = rest} (record { fits = lt }), let bits = of_z-to_z w32 rest lt in omega arith)) made)
     (λ _ e.
     chosen (kind == 3) _ _ v e
-    (λ is made. let k = test_true kind 3 is in read_made values.Text 4096 kind rest v (λ lt. (lt, omega arith)) made)
+    (λ is made. let k = test_true kind 3 is in read_made values.Text names kind rest v (λ lt. (lt, omega arith)) made)
     (λ _ e.
     chosen (kind == 4) _ _ v e
-    (λ is made. let k = test_true kind 4 is in read_made values.Func 1024 kind rest v (λ lt. (lt, omega arith)) made)
+    (λ is made. let k = test_true kind 4 is in read_made values.Func functions kind rest v (λ lt. (lt, omega arith)) made)
     (λ _ e.
     chosen (kind == 5) _ _ v e
     (λ is made. property_read rest kind v (test_true kind 5 is) made)
     (λ _ e.
     chosen (kind == 6) _ _ v e
-    (λ is made. let k = test_true kind 6 is in read_made values.Static 1024 kind rest v (λ lt. (lt, omega arith)) made)
+    (λ is made. let k = test_true kind 6 is in read_made values.Static functions kind rest v (λ lt. (lt, omega arith)) made)
     (λ _ e.
     chosen (kind == 7) _ _ v e
-    (λ is made. let k = test_true kind 7 is in read_made values.ClassM 1024 kind rest v (λ lt. (lt, omega arith)) made)
+    (λ is made. let k = test_true kind 7 is in read_made values.ClassM functions kind rest v (λ lt. (lt, omega arith)) made)
     (λ _ e.
     chosen (kind == 8) _ _ v e
-    (λ is made. let k = test_true kind 8 is in read_made values.Class 255 kind rest v (λ lt. (lt, omega arith)) made)
+    (λ is made. let k = test_true kind 8 is in read_made values.Class classes kind rest v (λ lt. (lt, omega arith)) made)
     (λ _ e.
     chosen (kind == 9) _ _ v e
-    (λ is made. let k = test_true kind 9 is in read_made values.Obj 4096 kind rest v (λ lt. (lt, omega arith)) made)
+    (λ is made. let k = test_true kind 9 is in read_made values.Obj objects kind rest v (λ lt. (lt, omega arith)) made)
     (λ _ e.
     absurd (cc))))))))))
 
@@ -181,7 +182,7 @@ at_none P (Some x) same = tt
 
 pub word_exact : (w : ℕ) (v : value.Value) → (value_at w ≡ Some v) ↔ HasWord v w
 word_exact w v =
-    (λ e. let read = word_read (w % 2 ^ 4) (w / 2 ^ 4) v e in (read.0, read.1 ∙ div-add-mod' w (2 ^ 4)), λ h. word_back v h.0 w h.1)
+    (λ e. let read = word_read (w % 2 ^ kind_bits) (w / 2 ^ kind_bits) v e in (read.0, read.1 ∙ div-add-mod' w (2 ^ kind_bits)), λ h. word_back v h.0 w h.1)
 
 -- two values in range with one word are one
 pub one_value : (u v : value.Value) → IsValue u → IsValue v → word_of u ≡ word_of v → u ≡ v

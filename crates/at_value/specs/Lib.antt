@@ -5,6 +5,7 @@ pub mod Classes
 pub mod Lists
 pub mod Pairs
 pub mod ProgramLimits
+pub mod Widths
 pub mod Fields
 pub mod Words
 pub mod Reading

@@ -1,20 +1,21 @@
 -- How an operation is written as four words of 64 bits. The layout is this project's own.
-use Rattle.std.specs.Prelude.{ℕ, ◌≡◌, ◌<◌, ◌≤◌, List, [], ◌∷◌, length, map}
+use Rattle.std.specs.Prelude.{ℕ, zero, suc, ◌≡◌, ◌<◌, ◌≤◌, List, [], ◌∷◌, length, map, take, drop}
 use Rattle.at_value.specs.declared.operation.Op as op
 use Rattle.at_value.specs.declared.operation.Op.TheVariants as ops
 use Rattle.at_value.specs.Classes.{AreClasses}
+use Rattle.at_value.specs.Widths.{names, objects, classes, operation_bits, subject_bits, second_bits, attribute_bits, base_bits, bases_a_word}
 use Rattle.at_value.specs.Fields.{field, number_of}
 use Rattle.at_value.specs.Words.{IsValue, word_of}
 
 -- the numbers of classes, objects and names that there may be
 abbrev pub IsClass : ℕ → Type 0
-IsClass c = c < 255
+IsClass c = c < classes
 
 abbrev pub IsObject : ℕ → Type 0
-IsObject o = o < 4096
+IsObject o = o < objects
 
 abbrev pub IsName : ℕ → Type 0
-IsName n = n < 4096
+IsName n = n < names
 
 -- at most eight bases
 abbrev pub IsBases : List ℕ → Type 0
@@ -40,22 +41,28 @@ IsOp (ops.Mro c) = IsClass c
 
 -- Word 0 from bit 0 on: the kind of the operation, the class or object that it is done to, a second number, and a name.
 abbrev pub heading : ℕ → ℕ → ℕ → ℕ → ℕ
-heading kind subject second name = number_of (field 8 kind ∷ field 16 subject ∷ field 16 second ∷ field 16 name ∷ [])
+heading kind subject second name =
+    number_of (field operation_bits kind ∷ field subject_bits subject ∷ field second_bits second ∷ field attribute_bits name ∷ [])
 
 -- numbers in one word, each in so many bits, the first from bit 0 on
 abbrev pub row_word : ℕ → List ℕ → ℕ
 row_word width numbers = number_of (map (field width) numbers)
 
--- bases in one word, each in eight bits
-abbrev pub bases_word : List ℕ → ℕ
-bases_word bases = row_word 8 bases
+-- numbers in so many words, each number in so many bits and so many numbers a word, the first in word 0 from bit 0 on
+abbrev pub row_words : (width each words : ℕ) → List ℕ → List ℕ
+row_words width each zero numbers = []
+row_words width each (suc words) numbers = row_word width (take each numbers) ∷ row_words width each words (drop each numbers)
+
+-- bases in three words
+abbrev pub bases_words : List ℕ → List ℕ
+bases_words bases = row_words base_bits bases_a_word 3 bases
 
 -- The four words of an operation. What an operation hasn't is 0.
 abbrev pub words_of : op.Op → List ℕ
-words_of (ops.NewClass c bases) = heading 1 c (length bases) 0 ∷ bases_word bases ∷ 0 ∷ 0 ∷ []
+words_of (ops.NewClass c bases) = heading 1 c (length bases) 0 ∷ bases_words bases
 words_of (ops.TypeSet c n v) = heading 2 c 0 n ∷ word_of v ∷ 0 ∷ 0 ∷ []
 words_of (ops.TypeDel c n) = heading 3 c 0 n ∷ 0 ∷ 0 ∷ 0 ∷ []
-words_of (ops.SetBases c bases) = heading 4 c (length bases) 0 ∷ bases_word bases ∷ 0 ∷ 0 ∷ []
+words_of (ops.SetBases c bases) = heading 4 c (length bases) 0 ∷ bases_words bases
 words_of (ops.New c) = heading 5 c 0 0 ∷ 0 ∷ 0 ∷ 0 ∷ []
 words_of (ops.Set o n v) = heading 6 o 0 n ∷ word_of v ∷ 0 ∷ 0 ∷ []
 words_of (ops.Del o n) = heading 7 o 0 n ∷ 0 ∷ 0 ∷ 0 ∷ []

@@ -1,5 +1,6 @@
 -- What a property has: functions that get, set and delete, each where it is given.
 use Rattle.std.specs.Prelude.{ℕ, zero, suc, ◌<◌, Option, Some, None}
+use Rattle.at_value.specs.Widths.{functions}
 
 pub record Parts : Type 0 where
   pub get : Option ℕ
@@ -19,4 +20,4 @@ held (Some f) = suc f
 -- where there is a function, its number is in range
 abbrev pub IsPart : Option ℕ → Type 0
 IsPart None = Unit {0}
-IsPart (Some f) = f < 1024
+IsPart (Some f) = f < functions

@@ -2,16 +2,17 @@
 use Rattle.std.specs.Prelude.{ℕ, zero, suc, ◌≤◌, ◌≡◌, refl}
 use Rattle.std.proofs.Common.{◌∙◌, ap}
 use Rattle.at_value.specs.declared.value.Prop.TheInside.{Inside}
+use Rattle.at_value.specs.Widths.{functions}
 use Rattle.at_value.specs.Parts.{Parts, part, held}
 
 abbrev pub parts_of : Inside → Parts
 parts_of p = record { get = part p.get; set = part p.set; del = part p.del }
 
--- each part is a function, of which there are 1,024
+-- each part is none or a function
 pub record AreParts (p : Inside) : Type 0 where
-  pub get : p.get ≤ 1024
-  pub set : p.set ≤ 1024
-  pub del : p.del ≤ 1024
+  pub get : p.get ≤ functions
+  pub set : p.set ≤ functions
+  pub del : p.del ≤ functions
 
 abbrev pub inside_of : Parts → Inside
 inside_of p = record { get = held p.get; set = held p.set; del = held p.del }

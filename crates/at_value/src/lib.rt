@@ -2,6 +2,7 @@
 //! and the short lists and the map that they are kept in.
 #![tactic(auto)]
 
+mod bits;
 mod limits;
 mod list;
 mod number;

@@ -1,117 +1,167 @@
 //! Operations as four words of 64 bits, for tables of words that several threads share.
-ghost use Rattle.std.specs.Prelude.{◌≡◌, ◌<◌, ◌≤◌, ◌↔◌, IfSome, IfNone, length, [], ◌∷◌};
+ghost use Rattle.std.specs.Prelude.{◌≡◌, ◌<◌, ◌≤◌, ◌^◌, ◌++◌, Some, None, option_map, ◌+◌, ◌↔◌, IfSome, IfNone, OnSome, length, take, drop, min, [], ◌∷◌};
 ghost use Rattle.at_value.specs.declared.operation.Op as ops;
 ghost use Rattle.at_value.specs.Classes.{AreClasses};
-ghost use Rattle.at_value.specs.Packing.{IsClass, IsBases, IsOp, heading, bases_word, words_of, HasWords};
-ghost use Rattle.at_value.specs.ReadingOps.{bases_at, heading_at, op_at};
+ghost use Rattle.at_value.specs.Widths.{operation_bits, base_bits, bases_a_word};
+ghost use Rattle.at_value.specs.Packing.{IsClass, IsBases, IsOp, heading, row_word, bases_words, words_of, HasWords};
+ghost use Rattle.at_value.specs.ReadingOps.{classes_in, bases_at, heading_at, op_at};
 
+use crate::bits::{joined, split};
 use crate::list::Bases;
-use crate::number::{Class, Name, Obj};
+use crate::number::Class;
 use crate::operation::Op;
-use crate::word::{read_value, to_word};
+use crate::word::{class_at, name_at, object_at, read_value, to_word};
 
 // The kinds of operations, as word 0 has them.
-const NEW_CLASS: u8 = 1;
+const NEW_CLASS: u64 = 1;
 
-const TYPE_SET: u8 = 2;
+const TYPE_SET: u64 = 2;
 
-const TYPE_DEL: u8 = 3;
+const TYPE_DEL: u64 = 3;
 
-const SET_BASES: u8 = 4;
+const SET_BASES: u64 = 4;
 
-const NEW: u8 = 5;
+const NEW: u64 = 5;
 
-const SET: u8 = 6;
+const SET: u64 = 6;
 
-const DEL: u8 = 7;
+const DEL: u64 = 7;
 
-const SET_CLASS: u8 = 8;
+const SET_CLASS: u64 = 8;
 
-const SHARE: u8 = 9;
+const SHARE: u64 = 9;
 
-const GET: u8 = 10;
+const GET: u64 = 10;
 
-const TYPE_GET: u8 = 11;
+const TYPE_GET: u64 = 11;
 
-const SUPER: u8 = 12;
+const SUPER: u64 = 12;
 
-const SPECIAL: u8 = 13;
+const SPECIAL: u64 = 13;
 
-const CLASS_OF: u8 = 14;
+const CLASS_OF: u64 = 14;
 
-const MRO: u8 = 15;
+const MRO: u64 = 15;
 
-/// In how many bits of a word a base stands.
+// In how many bits each field of word 0 stands, the kind from bit 0 on and each further one above it.
+const KIND_BITS: u32 = 8;
+
+const SUBJECT_BITS: u32 = 16;
+
+const SECOND_BITS: u32 = 16;
+
+const NAME_BITS: u32 = 16;
+
+/// In how many bits a base stands.
 const BASE_BITS: u32 = 8;
 
-/// The lowest of those bits.
-const BASE_MASK: u64 = 0xFF;
+/// How many bases stand in one word.
+const BASES_A_WORD: usize = 8;
 
 /// What word 0 of an operation has: its kind, the class or object that it is done to, a second number, and a name.
 #[derive(Clone, Copy)]
 struct Heading {
-    subject: u16,
-    second: u16,
-    name: u16,
-    kind: u8,
+    kind: u64,
+    subject: u64,
+    second: u64,
+    name: u64,
 }
 
 /// Word 0 with these fields.
-fn heading_word(kind: u8, subject: u16, second: u16, name: u16) -> u64
+fn heading_word(kind: u64, subject: u16, second: u16, name: u16) -> u64
+    requires { kind < 2 ^ operation_bits }
     ensures { result ≡ heading kind subject second name }
 {
-    let high = u64::from(name) << 16 | u64::from(second);
-    (high << 16 | u64::from(subject)) << 8 | u64::from(kind)
+    let word = joined(u64::from(name), SECOND_BITS, u64::from(second));
+    let word = joined(word, SUBJECT_BITS, u64::from(subject));
+    joined(word, KIND_BITS, kind)
 }
 
 /// The fields of word 0. The bits above them aren't read.
 fn heading_of(word: u64) -> Heading
     ensures { result ≡ heading_at word }
 {
+    let (kind, word) = split(word, KIND_BITS);
+    let (subject, word) = split(word, SUBJECT_BITS);
+    let (second, word) = split(word, SECOND_BITS);
+    let (name, _) = split(word, NAME_BITS);
     Heading {
-        subject: (word >> 8 & 0xFFFF) as u16,
-        second: (word >> 24 & 0xFFFF) as u16,
-        name: (word >> 40 & 0xFFFF) as u16,
-        kind: (word & 0xFF) as u8,
+        kind,
+        subject,
+        second,
+        name,
     }
 }
 
-/// Bases in one word, the first in the lowest bits.
-fn word_of_bases(bases: &[Class]) -> u64
-    requires { length bases.now ≤ 8 }
-    ensures word { result ≡ bases_word bases.now }
-    ensures range { AreClasses bases.now }
+/// The bases of one word, the first in the lowest bits.
+fn word_of_row(row: &[Class]) -> u64
+    requires { length row.now ≤ bases_a_word }
+    ensures word { result ≡ row_word base_bits row.now }
+    ensures range { AreClasses row.now }
 {
     let mut word = 0;
-    let mut i = bases.len();
+    let mut i = row.len();
     while i > 0 {
         i -= 1;
-        word = word << BASE_BITS | u64::from(bases[i].number());
+        word = joined(word, BASE_BITS, u64::from(row[i].number()));
     }
     word
 }
 
-/// So many bases in a word, and none exactly where they are more than eight, or one of them is no class.
-fn bases_of(count: u16, word: u64) -> Option<Bases>
-    ensures { result ≡ bases_at count word }
+/// The bases that go into one word, and those that are left.
+fn row_of(bases: &[Class]) -> (&[Class], &[Class])
+    ensures row { result.0.now ≡ take bases_a_word bases.now }
+    ensures left { result.1.now ≡ drop bases_a_word bases.now }
 {
-    let mut bases = Bases::none();
-    if usize::from(count) > Bases::MOST {
+    bases.split_at(bases.len().min(BASES_A_WORD))
+}
+
+/// Bases in three words, so many a word, the first in the lowest bits of the first word.
+fn words_of_bases(bases: &[Class]) -> [u64; 3]
+    requires { length bases.now ≤ 8 }
+    ensures words { result ≡ bases_words bases.now }
+    ensures range { AreClasses bases.now }
+{
+    let (first, left) = row_of(bases);
+    let (second, left) = row_of(left);
+    let (third, _) = row_of(left);
+    [word_of_row(first), word_of_row(second), word_of_row(third)]
+}
+
+/// Puts so many bases from a word behind those that are there. It is none exactly where one of them is no class.
+fn read_row(bases: &mut Bases, count: usize, word: u64) -> Option<()>
+    requires { length bases.old + count ≤ 8 }
+    ensures some { OnSome result (option_map (λ row. bases.old ++ row) (classes_in base_bits count word) ≡ Some bases.new) }
+    ensures none { IfNone result (classes_in base_bits count word ≡ None) }
+{
+    let mut left = word;
+    for _ in 0..count {
+        let (base, above) = split(left, BASE_BITS);
+        let _ = bases.push(class_at(base)?);
+        left = above;
+    }
+    Some(())
+}
+
+/// So many bases in these words, and none exactly where they are more than eight, or one of them is no class.
+fn bases_of(count: u64, words: &[u64; 3]) -> Option<Bases>
+    ensures { result ≡ bases_at count words.now }
+{
+    let mut left = count as usize;
+    if left > Bases::MOST {
         return None;
     }
-    let mut rest = word;
-    for _ in 0..count {
-        let base = Class::new((rest & BASE_MASK) as u16)?;
-        if bases.push(base).is_err() {
-            return None;
-        }
-        rest >>= BASE_BITS;
+    let mut bases = Bases::none();
+    for word in words {
+        let here = left.min(BASES_A_WORD);
+        read_row(&mut bases, here, *word)?;
+        left -= here;
     }
     Some(bases)
 }
 
 /// The four words of an operation: its kind, whom it is done to, a second class, object or number of bases, and its
-/// name in word 0; its value, or its bases, in word 1. What an operation hasn't is 0, as are words 2 and 3.
+/// name in word 0; its value in word 1, or its bases in the words behind word 0. What an operation hasn't is 0.
 pub fn pack(op: &Op) -> [u64; 4]
     ensures words { result ≡ words_of op.now }
     ensures range { IsOp op.now }
@@ -136,53 +186,51 @@ pub fn pack(op: &Op) -> [u64; 4]
 }
 
 /// The words with these fields in word 0, and this word 1.
-fn packed(kind: u8, subject: u16, second: u16, name: u16, first: u64) -> [u64; 4]
+fn packed(kind: u64, subject: u16, second: u16, name: u16, first: u64) -> [u64; 4]
+    requires { kind < 2 ^ operation_bits }
     ensures { result ≡ heading kind subject second name ∷ first ∷ 0 ∷ 0 ∷ [] }
 {
     [heading_word(kind, subject, second, name), first, 0, 0]
 }
 
 /// The words of an operation of this kind that gives a class these bases.
-fn packed_bases(kind: u8, c: Class, bases: &Bases) -> [u64; 4]
-    ensures words { result ≡ heading kind c (length bases.now) 0 ∷ bases_word bases.now ∷ 0 ∷ 0 ∷ [] }
+fn packed_bases(kind: u64, c: Class, bases: &Bases) -> [u64; 4]
+    requires { kind < 2 ^ operation_bits }
+    ensures words { result ≡ heading kind c (length bases.now) 0 ∷ bases_words bases.now }
     ensures range { IsClass c × IsBases bases.now }
 {
-    packed(
-        kind,
-        c.number(),
-        bases.len() as u16,
-        0,
-        word_of_bases(bases.as_slice()),
-    )
+    let heading = heading_word(kind, c.number(), bases.len() as u16, 0);
+    let words = words_of_bases(bases.as_slice());
+    [heading, words[0], words[1], words[2]]
 }
 
-/// The operation with this heading and this word 1, whatever the fields have that it doesn't use. It is none exactly
-/// where the kind is none of the fifteen, or a number is out of its range.
-fn read_op(heading: Heading, first: u64) -> Option<Op>
-    ensures { result ≡ op_at heading first }
+/// The operation with this heading and these words behind it, whatever the fields have that it doesn't use. It is none
+/// exactly where the kind is none of the fifteen, or a number is out of its range.
+fn read_op(heading: Heading, words: &[u64; 3]) -> Option<Op>
+    ensures { result ≡ op_at heading words.now }
 {
     let Heading {
+        kind,
         subject,
         second,
         name,
-        kind,
     } = heading;
     Some(match kind {
-        NEW_CLASS => Op::NewClass(Class::new(subject)?, bases_of(second, first)?),
-        TYPE_SET => Op::TypeSet(Class::new(subject)?, Name::new(name)?, read_value(first)?),
-        TYPE_DEL => Op::TypeDel(Class::new(subject)?, Name::new(name)?),
-        SET_BASES => Op::SetBases(Class::new(subject)?, bases_of(second, first)?),
-        NEW => Op::New(Class::new(subject)?),
-        SET => Op::Set(Obj::new(subject)?, Name::new(name)?, read_value(first)?),
-        DEL => Op::Del(Obj::new(subject)?, Name::new(name)?),
-        SET_CLASS => Op::SetClass(Obj::new(subject)?, Class::new(second)?),
-        SHARE => Op::Share(Obj::new(subject)?, Obj::new(second)?),
-        GET => Op::Get(Obj::new(subject)?, Name::new(name)?),
-        TYPE_GET => Op::TypeGet(Class::new(subject)?, Name::new(name)?),
-        SUPER => Op::Super(Class::new(second)?, Obj::new(subject)?, Name::new(name)?),
-        SPECIAL => Op::Special(Obj::new(subject)?, Name::new(name)?),
-        CLASS_OF => Op::ClassOf(Obj::new(subject)?),
-        MRO => Op::Mro(Class::new(subject)?),
+        NEW_CLASS => Op::NewClass(class_at(subject)?, bases_of(second, words)?),
+        TYPE_SET => Op::TypeSet(class_at(subject)?, name_at(name)?, read_value(words[0])?),
+        TYPE_DEL => Op::TypeDel(class_at(subject)?, name_at(name)?),
+        SET_BASES => Op::SetBases(class_at(subject)?, bases_of(second, words)?),
+        NEW => Op::New(class_at(subject)?),
+        SET => Op::Set(object_at(subject)?, name_at(name)?, read_value(words[0])?),
+        DEL => Op::Del(object_at(subject)?, name_at(name)?),
+        SET_CLASS => Op::SetClass(object_at(subject)?, class_at(second)?),
+        SHARE => Op::Share(object_at(subject)?, object_at(second)?),
+        GET => Op::Get(object_at(subject)?, name_at(name)?),
+        TYPE_GET => Op::TypeGet(class_at(subject)?, name_at(name)?),
+        SUPER => Op::Super(class_at(second)?, object_at(subject)?, name_at(name)?),
+        SPECIAL => Op::Special(object_at(subject)?, name_at(name)?),
+        CLASS_OF => Op::ClassOf(object_at(subject)?),
+        MRO => Op::Mro(class_at(subject)?),
         _ => return None,
     })
 }
@@ -195,7 +243,7 @@ pub fn unpack(w: [u64; 4]) -> Option<Op>
     ensures some { IfSome result (λ op. HasWords op w) }
     ensures none { IfNone result ((op : ops.Op) → ¬ HasWords op w) }
 {
-    let op = read_op(heading_of(w[0]), w[1])?;
+    let op = read_op(heading_of(w[0]), &[w[1], w[2], w[3]])?;
     if pack(&op) == w { Some(op) } else { None }
 }
 

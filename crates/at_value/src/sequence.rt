@@ -47,7 +47,7 @@ impl<T> Sequence<T> {
         self.items.get(i)
     }
 
-    /// The items, in order.
+    /// The items, in order, for a caller that may know that they are kept as a slice.
     pub fn items(&self) -> &[T]
         ensures { result.now ≡ self.now }
     {

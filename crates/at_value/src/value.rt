@@ -1,8 +1,10 @@
 //! Values.
 ghost use Rattle.std.specs.Prelude.{◌≡◌, ◌≤◌, ◌<◌, ◌+◌, ◌*◌, ◌^◌};
+ghost use Rattle.at_value.specs.Widths.{functions, part_bits};
 ghost use Rattle.at_value.specs.Parts.{part, held, IsPart};
 ghost use Rattle.at_value.specs.Reading.{parts_at};
 
+use crate::bits::{joined, split};
 use crate::number::{Class, Func, Name, Obj};
 use std::marker::Model;
 
@@ -37,11 +39,8 @@ impl Prop {
     /// In how many bits of a number a part stands.
     const PART_BITS: u32 = 16;
 
-    /// The lowest of those bits.
-    const PART_MASK: u64 = 0xFFFF;
-
     /// The greatest number that holds a part.
-    const MOST: u64 = 1024;
+    const MOST: u64 = Func::COUNT as u64;
 
     /// A property with these parts.
     pub fn new(get: Option<Func>, set: Option<Func>, del: Option<Func>) -> Prop
@@ -75,23 +74,22 @@ impl Prop {
         part_at(self.del)
     }
 
-    /// The three parts in one number, 16 bits each: the one that reads from bit 0 on, then those that write and delete.
+    /// The three parts in one number: the one that reads in the lowest bits, then those that write and delete.
     pub(crate) fn number(self) -> u64
-        ensures same { result ≡ (held self.del * 2 ^ 16 + held self.set) * 2 ^ 16 + held self.get }
-        ensures range { result < 2 ^ 48 }
+        ensures same { result ≡ (held self.del * 2 ^ part_bits + held self.set) * 2 ^ part_bits + held self.get }
+        ensures range { result < 2 ^ (3 * part_bits) }
         ensures parts { IsPart self.get × IsPart self.set × IsPart self.del }
     {
-        (u64::from(self.del) << Self::PART_BITS | u64::from(self.set)) << Self::PART_BITS
-            | u64::from(self.get)
+        let above = joined(u64::from(self.del), Self::PART_BITS, u64::from(self.set));
+        joined(above, Self::PART_BITS, u64::from(self.get))
     }
 
     /// The property with these parts in one number, and none exactly where the number isn't that of a property.
     pub(crate) fn of_number(n: u64) -> Option<Prop>
         ensures { result ≡ parts_at n }
     {
-        let get = n & Self::PART_MASK;
-        let set = n >> Self::PART_BITS & Self::PART_MASK;
-        let del = n >> Self::PART_BITS >> Self::PART_BITS;
+        let (get, above) = split(n, Self::PART_BITS);
+        let (set, del) = split(above, Self::PART_BITS);
         if get <= Self::MOST && set <= Self::MOST && del <= Self::MOST {
             Some(Prop {
                 get: get as u16,
@@ -107,7 +105,7 @@ impl Prop {
 /// The number that holds a part.
 fn held_part(part: Option<Func>) -> u16
     ensures same { result ≡ held part }
-    ensures range { result ≤ 1024 }
+    ensures range { result ≤ functions }
 {
     match part {
         Some(function) => function.number() + 1,
@@ -117,7 +115,7 @@ fn held_part(part: Option<Func>) -> u16
 
 /// The part that a number holds.
 fn part_at(number: u16) -> Option<Func>
-    requires { number ≤ 1024 }
+    requires { number ≤ functions }
     ensures { result ≡ part number }
 {
     if number == 0 {

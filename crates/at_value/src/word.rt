@@ -1,19 +1,18 @@
 //! Values as words of 64 bits, for tables of words that several threads share.
-ghost use Rattle.std.specs.Prelude.{◌≡◌, ◌<◌, ◌+◌, ◌*◌, ◌^◌, IfSome, IfNone, ◌↔◌, option_map};
+ghost use Rattle.std.specs.Prelude.{◌≡◌, ◌<◌, ◌+◌, ◌-◌, ◌*◌, ◌^◌, IfSome, IfNone, ◌↔◌, option_map};
 ghost use Rattle.at_value.specs.declared.value.Value as values;
 ghost use Rattle.at_value.specs.declared.value.Value.TheVariants as value;
 ghost use Rattle.std.specs.Int.{w32, cast_signed};
+ghost use Rattle.at_value.specs.Widths.{names, objects, classes, functions, kind_bits, integer_bits};
 ghost use Rattle.at_value.specs.Words.{IsValue, word_of, HasWord};
 ghost use Rattle.at_value.specs.Reading.{below, value_at_kind, value_at};
 
+use crate::bits::{joined, split};
 use crate::number::{Class, Func, Name, Obj};
 use crate::value::{Prop, Value};
 
-/// How many bits the kind of a value has.
+/// In how many bits the kind of a value stands.
 const KIND_BITS: u32 = 4;
-
-/// The bits of the kind.
-const KIND_MASK: u64 = 0xF;
 
 // The kinds of values, as their words have them.
 const NOTHING: u64 = 1;
@@ -36,14 +35,14 @@ const OBJ: u64 = 9;
 
 /// The word with this kind, and above it the rest.
 fn kinded(kind: u64, rest: u64) -> u64
-    requires kind { kind < 2 ^ 4 }
-    requires rest { rest < 2 ^ 60 }
-    ensures { result ≡ rest * 2 ^ 4 + kind }
+    requires kind { kind < 2 ^ kind_bits }
+    requires rest { rest < 2 ^ (64 - kind_bits) }
+    ensures { result ≡ rest * 2 ^ kind_bits + kind }
 {
-    rest << KIND_BITS | kind
+    joined(rest, KIND_BITS, kind)
 }
 
-/// The word of a value, which is never 0. The lowest four bits are its kind and the bits above them its numbers; the
+/// The word of a value, which is never 0. The lowest bits are its kind and those above them its numbers; the
 /// bits that it doesn't use are 0.
 pub fn to_word(v: Value) -> u64
     ensures word { result ≡ word_of v }
@@ -64,36 +63,36 @@ pub fn to_word(v: Value) -> u64
 }
 
 /// The name with this number, and none exactly from 4,096 on.
-fn name_at(n: u64) -> Option<Name>
-    ensures { result ≡ below 4096 n }
+pub(crate) fn name_at(n: u64) -> Option<Name>
+    ensures { result ≡ below names n }
 {
     Name::new(u16::try_from(n).ok()?)
 }
 
 /// The function with this number, and none exactly from 1,024 on.
 fn func_at(n: u64) -> Option<Func>
-    ensures { result ≡ below 1024 n }
+    ensures { result ≡ below functions n }
 {
     Func::new(u16::try_from(n).ok()?)
 }
 
 /// The class with this number, and none exactly from 255 on.
-fn class_at(n: u64) -> Option<Class>
-    ensures { result ≡ below 255 n }
+pub(crate) fn class_at(n: u64) -> Option<Class>
+    ensures { result ≡ below classes n }
 {
     Class::new(u16::try_from(n).ok()?)
 }
 
 /// The object with this number, and none exactly from 4,096 on.
-fn object_at(n: u64) -> Option<Obj>
-    ensures { result ≡ below 4096 n }
+pub(crate) fn object_at(n: u64) -> Option<Obj>
+    ensures { result ≡ below objects n }
 {
     Obj::new(u16::try_from(n).ok()?)
 }
 
 /// The integer that has these 32 bits in two's complement, and none exactly where the number has more bits.
 fn int_at(n: u64) -> Option<Value>
-    ensures { result ≡ option_map (λ bits. value.Int (cast_signed w32 bits)) (below (2 ^ 32) n) }
+    ensures { result ≡ option_map (λ bits. value.Int (cast_signed w32 bits)) (below (2 ^ integer_bits) n) }
 {
     let bits = u32::try_from(n).ok()?;
     Some(Value::Int(bits.cast_signed()))
@@ -121,7 +120,8 @@ fn value_of_kind(kind: u64, rest: u64) -> Option<Value>
 pub(crate) fn read_value(w: u64) -> Option<Value>
     ensures { result ≡ value_at w }
 {
-    value_of_kind(w & KIND_MASK, w >> KIND_BITS)
+    let (kind, rest) = split(w, KIND_BITS);
+    value_of_kind(kind, rest)
 }
 
 /// The value whose word this is, and none exactly where it is the word of no value: where the kind is none of the nine,

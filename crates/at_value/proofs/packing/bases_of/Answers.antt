@@ -1,25 +1,24 @@
-use Rattle.std.proofs.Common.{◌≡◌, ◌<◌, ◌≤◌, suc, length, [], ◌∷◌, ◌-◌, ◌+◌, ◌∙◌, ap, sym, arith, ◌%◌, ◌^◌, length-append}
-use Rattle.std.proofs.lemmas.Nat.{and_mask}
-use Rattle.at_value.proofs.OperationWords.{base_read, base_refused, bases_at_most, on_ok}
+use Rattle.std.proofs.Common.{◌≡◌, ◌<◌, ◌+◌, ◌++◌, length, drop, get_or, suc, [], ◌∷◌, Some, ◌∙◌, ap, sym, arith, drop-cons, append-nil}
+use Rattle.std.proofs.lemmas.List.{drop_all}
+use Rattle.at_value.specs.Widths.{base_bits, bases_a_word}
+use Rattle.at_value.specs.ReadingOps.{classes_of_words}
+use Rattle.at_value.proofs.OperationWords.{row_read, bases_at_most}
 use Rattle.at_value.proofs.packing.bases_of.Goals as goal
 
-pub returns-in_err-base : goal.returns-in_err-base
-returns-in_err-base c =
-    let left = c.args.count - c.loop.counter in
-    let low : 255 ≤ c.loop.rest % 2 ^ 8 = omega (arith, c.in_err-base.ensures.none, and_mask c.loop.rest 8) in
-    c.from_residual.ensures ∙ base_refused 8 left (left - 1) c.loop.rest c.loop.bases _ (omega arith) low (c.loop.invariant.all ∙ sym (bases_at_most c.args.count c.args.word c.loop.invariant.few))
+pub loop-word-preserved : goal.loop-word-preserved
+loop-word-preserved c =
+    let i = c.loop-word.word-index in
+    let in_list : i < length c.args.words.now = omega (arith, c.fits-words, c.loop-word-test.true) in
+    let next : i + 1 ≡ suc i = omega arith in
+    let front : drop i c.args.words.now ≡ get_or c.args.words.now i 0 ∷ drop (i + 1) c.args.words.now = rw next (drop-cons c.args.words.now i 0 in_list) in
+    let read = row_read base_bits bases_a_word c.loop-word.left c.min-here.result _ _ _ c.loop-word.bases c.read_row.new.bases _ c.min-here.ensures front
+    c.in_ok-read_row.ensures.some c.loop-word.invariant.all
+    in
+    record { few = omega (arith, read.0, c.loop-word.invariant.few); all = read.1 }
 
-pub loop-preserved : goal.loop-preserved
-loop-preserved c =
-    let left = c.args.count - c.loop.counter in
-    let pushed = on_ok c.push.result c.push.ensures.ok (sym c.if-is_err.ensures.value) in
-    let base = c.in_ok-base.ensures.some in
-    let low : c.in_ok-base.base ≡ c.loop.rest % 2 ^ 8 = base.0 ∙ and_mask c.loop.rest 8 in
-    let class : c.in_ok-base.base < 255 = omega (arith, base.1, base.0) in
-    let grown : length c.push.new.self ≡ c.loop.counter + 1 = omega (arith, ap length pushed.1, length-append c.loop.bases (c.in_ok-base.base ∷ [])) in
-    let n : left ≡ suc (c.args.count - (c.loop.counter + 1)) = omega arith in
-    record {
-      few = c.loop.invariant.few;
-      count = grown;
-      all = base_read 8 left (c.args.count - (c.loop.counter + 1)) c.loop.rest c.in_ok-base.base c.loop.bases c.push.new.self _ n low class pushed.1 c.loop.invariant.all;
-    }
+pub returns : goal.returns
+returns c =
+    let words = c.args.words.now in
+    let over : drop c.loop-word.word-index words ≡ [] = drop_all c.loop-word.word-index words (omega (arith, c.fits-words, c.loop-word-test.false)) in
+    let all : Some (c.loop-word.bases ++ []) ≡ classes_of_words base_bits bases_a_word c.args.count words = rw over at c.loop-word.invariant.all in
+    ap Some (sym (append-nil c.loop-word.bases)) ∙ all ∙ sym (bases_at_most c.args.count words c.if-left-gt-MOST.false)

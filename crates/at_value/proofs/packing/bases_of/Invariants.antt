@@ -1,12 +1,12 @@
-use Rattle.std.proofs.Common.{◌≡◌, ◌≤◌, length, ◌-◌, ◌++◌}
+use Rattle.std.proofs.Common.{◌≡◌, ◌≤◌, length, ◌+◌, ◌++◌, drop}
 use Rattle.std.specs.Prelude.{option_map}
-use Rattle.at_value.specs.ReadingOps.{classes_in}
+use Rattle.at_value.specs.Widths.{base_bits, bases_a_word}
+use Rattle.at_value.specs.ReadingOps.{classes_of_words}
 use Rattle.at_value.proofs.packing.bases_of.Given as goal
 
 -- the bases that were read, before those that are left, are all
-abbrev pub invariant-loop : goal.invariant-loop
-invariant-loop l = record {
-  few : l.count ≤ 8;
-  count : length l.bases ≡ l.counter;
-  all : option_map (λ more. l.bases ++ more) (classes_in 8 (l.count - l.counter) l.rest) ≡ classes_in 8 l.count l.fn.word;
+abbrev pub invariant-loop-word : goal.invariant-loop-word
+invariant-loop-word l = record {
+  few : length l.bases + l.left ≤ 8;
+  all : option_map (λ more. l.bases ++ more) (classes_of_words base_bits bases_a_word l.left (drop l.word-index l.words)) ≡ classes_of_words base_bits bases_a_word l.count l.words;
 }
