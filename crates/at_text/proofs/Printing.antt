@@ -6,7 +6,7 @@ use Rattle.at_source.specs.Faults.{Rose}
 use Rattle.at_source.specs.Page.{Held, Writes, Printed, empty_page}
 use Rattle.at_source.proofs.Told.{append_known-nil}
 use Rattle.at_source.proofs.Printing.{then_writes}
-use Rattle.at_text.specs.Prints.{Point, Prints}
+use Rattle.at_text.specs.Prints.{Point, Prints, item_text}
 use Rattle.at_world.specs.declared.last.ObjEnd.{ObjEnd}
 use Rattle.at_script.specs.Parts.{Parts}
 use Rattle.at_text.specs.Last.{object_end_text, object_ends_text}
@@ -75,25 +75,42 @@ then_item f xs i x within is before next = then_item_at f xs i x within before (
 pub all_items : {X : Type 0} {a b : Point} (f : X → List ℕ) (xs : List X) (i : ℕ) → length xs ≤ i → Prints a b (flat_map f (take i xs)) → Prints a b (flat_map f xs)
 all_items f xs i over prints = prints_same (ap (flat_map f) (take_all i xs over)) prints
 
--- the texts of the objects so far, and that of the next
-pub object_ends_more : (s : Parts) (o : ℕ) (ends : List ObjEnd) (i : ℕ) (d : ObjEnd) → i < length ends → object_ends_text s o (take i ends) ++ object_end_text s (o + i) (get_or ends i d) ≡ object_ends_text s o (take (i + 1) ends)
-object_ends_more s o [] i d within = absurd (omega arith)
-object_ends_more s o (end ∷ ends) zero d within =
+-- the texts of the items so far, and that of the next, where there is one
+pub flat_map-take_next : {X : Type 0} (f : X → List ℕ) (xs : List X) (i : ℕ) → flat_map f (take i xs) ++ item_text f (slice_get xs i) ≡ flat_map f (take (i + 1) xs)
+flat_map-take_next f [] zero = refl
+flat_map-take_next f [] (suc i) =
+    let next : suc i + 1 ≡ suc (i + 1) = omega arith in
+    ap (λ n. flat_map f (take n [])) (sym next)
+flat_map-take_next f (x ∷ xs) zero = sym (append-nil (f x))
+flat_map-take_next f (x ∷ xs) (suc i) =
+    let next : suc i + 1 ≡ suc (i + 1) = omega arith in
+    append_assoc (f x) (flat_map f (take i xs)) (item_text f (slice_get xs i))
+    ∙ ap (λ l. f x ++ l) (flat_map-take_next f xs i) ∙ ap (λ n. flat_map f (take n (x ∷ xs))) (sym next)
+
+pub then_next : {X : Type 0} {a b c : Point} (f : X → List ℕ) (xs : List X) (i : ℕ) → Prints a b (flat_map f (take i xs)) → Prints b c (item_text f (slice_get xs i)) → Prints a c (flat_map f (take (i + 1) xs))
+then_next f xs i before next = prints_same (flat_map-take_next f xs i) (then_prints before next)
+
+-- the texts of the objects so far, and that of the next, where there is one
+pub object_ends_more : (s : Parts) (o : ℕ) (ends : List ObjEnd) (i : ℕ) → object_ends_text s o (take i ends) ++ item_text (object_end_text s (o + i)) (slice_get ends i) ≡ object_ends_text s o (take (i + 1) ends)
+object_ends_more s o [] zero = refl
+object_ends_more s o [] (suc i) =
+    let next : suc i + 1 ≡ suc (i + 1) = omega arith in
+    ap (λ n. object_ends_text s o (take n [])) (sym next)
+object_ends_more s o (end ∷ ends) zero =
     let number : o + 0 ≡ o = omega arith in
     ap (λ n. object_end_text s n end) number ∙ sym (append-nil (object_end_text s o end))
-object_ends_more s o (end ∷ ends) (suc i) d within =
+object_ends_more s o (end ∷ ends) (suc i) =
     let number : o + suc i ≡ o + 1 + i = omega arith in
     let next : suc i + 1 ≡ suc (i + 1) = omega arith in
     let first = object_end_text s o end in
-    ap (λ n. (first ++ object_ends_text s (o + 1) (take i ends)) ++ object_end_text s n (get_or ends i d)) number
-    ∙ append_assoc first (object_ends_text s (o + 1) (take i ends)) (object_end_text s (o + 1 + i) (get_or ends i d))
-    ∙ ap (λ l. first ++ l) (object_ends_more s (o + 1) ends i d (omega arith)) ∙ ap (λ n. object_ends_text s o (take n (end ∷ ends))) (sym next)
+    ap (λ n. (first ++ object_ends_text s (o + 1) (take i ends)) ++ item_text (object_end_text s n) (slice_get ends i)) number
+    ∙ append_assoc first (object_ends_text s (o + 1) (take i ends)) (item_text (object_end_text s (o + 1 + i)) (slice_get ends i))
+    ∙ ap (λ l. first ++ l) (object_ends_more s (o + 1) ends i) ∙ ap (λ n. object_ends_text s o (take n (end ∷ ends))) (sym next)
 
-pub then_object : {a b c : Point} (s : Parts) (ends : List ObjEnd) (i : ℕ) (end : ObjEnd) → i < length ends → end ≡ get_or ends i end → Prints a b (object_ends_text s 0 (take i ends)) → Prints b c (object_end_text s i end) → Prints a c (object_ends_text s 0 (take (i + 1) ends))
-then_object s ends i end within is before next =
+pub then_object : {a b c : Point} (s : Parts) (ends : List ObjEnd) (i : ℕ) → Prints a b (object_ends_text s 0 (take i ends)) → Prints b c (item_text (object_end_text s i) (slice_get ends i)) → Prints a c (object_ends_text s 0 (take (i + 1) ends))
+then_object s ends i before next =
     let number : i ≡ 0 + i = omega arith in
-    prints_same (object_ends_more s 0 ends i end within)
-    (then_prints before (prints_same (ap (λ n. object_end_text s n end) number ∙ ap (object_end_text s (0 + i)) is) next))
+    prints_same (object_ends_more s 0 ends i) (then_prints before (prints_same (ap (λ n. item_text (object_end_text s n) (slice_get ends i)) number) next))
 
 pub all_objects : {a b : Point} (s : Parts) (ends : List ObjEnd) (i : ℕ) → length ends ≤ i → Prints a b (object_ends_text s 0 (take i ends)) → Prints a b (object_ends_text s 0 ends)
 all_objects s ends i over prints = prints_same (ap (object_ends_text s 0) (take_all i ends over)) prints

@@ -1,9 +1,9 @@
 //! Printing the final namespaces.
-ghost use Rattle.std.specs.Prelude.{◌≡◌};
+ghost use Rattle.std.specs.Prelude.{◌≡◌, slice_get};
 ghost use Rattle.std.specs.List.{flat_map};
 ghost use Rattle.at_text.specs.Last.{pair_text, own_text, class_end_text, object_end_text, object_ends_text};
 ghost use Rattle.at_text.specs.Order.{AreKeys};
-ghost use Rattle.at_text.specs.Prints.{Prints};
+ghost use Rattle.at_text.specs.Prints.{Prints, item_text};
 ghost use Rattle.at_text.specs.Transcript.{final_text};
 
 use crate::order::ByBytes;
@@ -76,6 +76,24 @@ fn put_object_end<K: Sink>(
     put_own(out, pen, names, order, &end.own);
 }
 
+/// Prints the class at an index, with its order and its names.
+fn put_class_end_at<K: Sink>(
+    out: &mut K,
+    pen: &mut Pen,
+    names: &Script,
+    order: &mut ByBytes,
+    ends: &ClassEnds,
+    i: usize,
+)
+    requires { AreKeys names.now.names order.old.keys }
+    ensures text { Prints (K.written out.old, K.faults out.old, pen.old) (K.written out.new, K.faults out.new, pen.new) (item_text (class_end_text names.now) (slice_get ends.now i)) }
+    ensures keys { order.new.keys ≡ order.old.keys }
+{
+    if let Some(end) = ends.at(i) {
+        put_class_end(out, pen, names, order, end);
+    }
+}
+
 /// Prints the classes that were made.
 fn put_class_ends<K: Sink>(
     out: &mut K,
@@ -88,8 +106,26 @@ fn put_class_ends<K: Sink>(
     ensures text { Prints (K.written out.old, K.faults out.old, pen.old) (K.written out.new, K.faults out.new, pen.new) (flat_map (class_end_text names.now) ends.now) }
     ensures keys { order.new.keys ≡ order.old.keys }
 {
-    for end in ends.items() {
-        put_class_end(out, pen, names, order, end);
+    for i in 0..ends.len() {
+        put_class_end_at(out, pen, names, order, ends, i);
+    }
+}
+
+/// Prints the object with this number, with its class and its names.
+fn put_object_end_at<K: Sink>(
+    out: &mut K,
+    pen: &mut Pen,
+    names: &Script,
+    order: &mut ByBytes,
+    ends: &ObjEnds,
+    number: usize,
+)
+    requires { AreKeys names.now.names order.old.keys }
+    ensures text { Prints (K.written out.old, K.faults out.old, pen.old) (K.written out.new, K.faults out.new, pen.new) (item_text (object_end_text names.now number) (slice_get ends.now number)) }
+    ensures keys { order.new.keys ≡ order.old.keys }
+{
+    if let Some(end) = ends.at(number) {
+        put_object_end(out, pen, names, order, number, end);
     }
 }
 
@@ -105,8 +141,8 @@ fn put_object_ends<K: Sink>(
     ensures text { Prints (K.written out.old, K.faults out.old, pen.old) (K.written out.new, K.faults out.new, pen.new) (object_ends_text names.now 0 ends.now) }
     ensures keys { order.new.keys ≡ order.old.keys }
 {
-    for (number, end) in ends.items().iter().enumerate() {
-        put_object_end(out, pen, names, order, number, end);
+    for number in 0..ends.len() {
+        put_object_end_at(out, pen, names, order, ends, number);
     }
 }
 

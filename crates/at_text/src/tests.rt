@@ -1,8 +1,10 @@
 //! The text of whole runs, byte by byte.
+ghost use Rattle.std.specs.Prelude.{◌<◌};
+
 mod words;
 
 use crate::{PrintFault, print};
-use at_script::{Script, read};
+use at_script::read;
 use at_source::MemSink;
 use at_value::{
     Bases, Class, ClassList, Miss, Name, Obj, Op, Pairs, Path, Place, Reply, Sequence, Value,
@@ -12,9 +14,35 @@ use std::alloc::{AllocError, Global};
 use std::process::Abort;
 use std::test::Fail;
 
-/// The script of the bytes.
-fn script_of(alloc: Global, bytes: &[u8]) -> Result<Script, Fail> {
-    Ok(read(alloc, bytes)?)
+/// Prints the run of the script into the sink.
+fn print_run(
+    alloc: Global,
+    script: &[u8],
+    run: &Ran,
+    out: &mut MemSink,
+) -> Result<Result<(), PrintFault>, Fail> {
+    let names = read(alloc, script)?;
+    Ok(print(alloc, script, &names, run, out))
+}
+
+/// What stands in a sink that takes at most so many bytes a write, once the run is printed.
+fn printed(
+    rt: &(impl Abort + Alloc<A = Global>),
+    script: &[u8],
+    run: &Ran,
+    most: usize,
+) -> Result<MemSink, Fail>
+    requires { 0 < most }
+{
+    let alloc = rt.alloc();
+    let mut out = MemSink::new(alloc, 10_000, most, Vec::new(alloc))?;
+    assert_eq!(rt; print_run(alloc, script, run, &mut out)?, Ok(()));
+    Ok(out)
+}
+
+/// The sink has taken this text.
+fn assert_taken(rt: &impl Abort, out: &MemSink, text: &str) {
+    assert_eq!(rt; out.bytes(), text.as_bytes());
 }
 
 fn class(n: u16) -> Class {
@@ -25,8 +53,8 @@ fn name(n: u16) -> Name {
     Name::new(n).unwrap_or(Name::init())
 }
 
-fn object(n: u16) -> Option<Obj> {
-    Obj::new(n)
+fn object(n: u16) -> Result<Obj, Fail> {
+    Ok(Obj::new(n).ok_or("no object")?)
 }
 
 /// A run of these lines, of no class and no object.
@@ -70,6 +98,8 @@ fn class_end(
     })
 }
 
+const EMPTY_SCRIPT: &[u8] = b"attrs 1\nmain\nend\n";
+
 const EMPTY: &str = "attrs transcript 1
 script 17
 attrs 1
@@ -85,15 +115,12 @@ end
 #[test]
 fn an_empty_run_is_printed(rt: HostRuntime) -> Result<(), Fail> {
     let alloc = rt.alloc();
-    let script = b"attrs 1\nmain\nend\n";
-    let names = script_of(alloc, script)?;
     let mut classes = Vec::new(alloc);
     classes.push(class_end(alloc, 0, &[class(0)], &[])?)?;
     let mut run = run_of(alloc, Vec::new(alloc));
     run.last.classes = Sequence::of(classes);
-    let mut out = MemSink::new(alloc, 1000, 1000, Vec::new(alloc))?;
-    assert_eq!(rt; print(alloc, script, &names, &run, &mut out), Ok(()));
-    assert_eq!(rt; out.bytes(), EMPTY.as_bytes());
+    let out = printed(&rt, EMPTY_SCRIPT, &run, 1000)?;
+    assert_taken(&rt, &out, EMPTY);
     Ok(())
 }
 
@@ -127,78 +154,88 @@ end
 
 fn first_path_lines(o: Obj) -> [Line; 5] {
     let (c, x) = (class(1), name(5));
-    let bases = Bases::only(class(0));
+    let made = Op::NewClass(c, Bases::only(class(0)));
+    let put = Op::TypeSet(c, x, Value::Int(1));
     let miss = Path::Slow(Miss::Untagged(c));
     [
-        went(1, 1, Path::Locked, Op::NewClass(c, bases), Reply::Done),
-        went(
-            2,
-            2,
-            Path::Locked,
-            Op::TypeSet(c, x, Value::Int(1)),
-            Reply::Done,
-        ),
+        went(1, 1, Path::Locked, made, Reply::Done),
+        went(2, 2, Path::Locked, put, Reply::Done),
         went(3, 3, Path::Locked, Op::New(c), Reply::Made(o, None)),
         went(4, 3, miss, Op::Get(o, x), Reply::Value(Value::Int(1))),
         went(5, 3, Path::Fast, Op::Get(o, x), Reply::Value(Value::Int(1))),
     ]
 }
 
-fn first_path(alloc: Global, o: Obj) -> Result<Ran, AllocError> {
-    let mut lines = Vec::new(alloc);
-    for line in first_path_lines(o) {
-        lines.push(line)?;
-    }
-    let mut run = run_of(alloc, lines);
+fn first_path_classes(alloc: Global) -> Result<Vec<ClassEnd>, AllocError> {
     let mut classes = Vec::new(alloc);
     classes.push(class_end(alloc, 0, &[class(0)], &[])?)?;
     let own = [(name(5), Value::Int(1))];
     classes.push(class_end(alloc, 1, &[class(1), class(0)], &own)?)?;
-    run.last.classes = Sequence::of(classes);
+    Ok(classes)
+}
+
+fn first_path_objects(alloc: Global) -> Result<Vec<ObjEnd>, AllocError> {
     let mut objects = Vec::new(alloc);
     objects.push(ObjEnd {
         class: class(1),
         own: Pairs::new(alloc),
     })?;
-    run.last.objects = Sequence::of(objects);
+    Ok(objects)
+}
+
+fn first_path(alloc: Global) -> Result<Ran, Fail> {
+    let mut lines = Vec::new(alloc);
+    for line in first_path_lines(object(0)?) {
+        lines.push(line)?;
+    }
+    let mut run = run_of(alloc, lines);
+    run.last.classes = Sequence::of(first_path_classes(alloc)?);
+    run.last.objects = Sequence::of(first_path_objects(alloc)?);
     Ok(run)
 }
 
 #[test]
 fn the_first_path_is_printed_however_the_sink_takes_it(rt: HostRuntime) -> Result<(), Fail> {
-    let alloc = rt.alloc();
-    let names = script_of(alloc, FIRST_PATH_SCRIPT)?;
-    let run = first_path(alloc, object(0).ok_or("no object")?)?;
+    let run = first_path(rt.alloc())?;
     for most in [1, 7, 100_000] {
-        let mut out = MemSink::new(alloc, 1000, most, Vec::new(alloc))?;
-        assert_eq!(rt;
-            print(alloc, FIRST_PATH_SCRIPT, &names, &run, &mut out),
-            Ok(())
-        );
-        assert_eq!(rt; out.bytes(), FIRST_PATH.as_bytes());
+        let out = printed(&rt, FIRST_PATH_SCRIPT, &run, most)?;
+        assert_taken(&rt, &out, FIRST_PATH);
     }
     Ok(())
+}
+
+/// A sink with so much room, whose call of this number fails.
+fn failing_sink(alloc: Global, room: usize, fails: u64) -> Result<MemSink, AllocError> {
+    let mut calls = Vec::new(alloc);
+    calls.push(fails)?;
+    MemSink::new(alloc, room, 1000, calls)
+}
+
+/// Room, the call that fails, and how much of the text is written then. Without a failed write the flush is call 1.
+fn faults(text: &str) -> [(usize, u64, usize); 4] {
+    [
+        (0, 9, 0),
+        (100, 9, 100),
+        (1000, 0, 0),
+        (1000, 1, text.len()),
+    ]
+}
+
+/// The sink has taken the front of the text that is so long.
+fn assert_front(rt: &impl Abort, out: &MemSink, length: usize, text: &str) {
+    assert_eq!(rt; out.bytes().len(), length);
+    assert!(rt; text.as_bytes().starts_with(out.bytes()));
 }
 
 #[test]
 fn a_sink_that_fails_has_a_front(rt: HostRuntime) -> Result<(), Fail> {
     let alloc = rt.alloc();
-    let names = script_of(alloc, FIRST_PATH_SCRIPT)?;
-    let run = first_path(alloc, object(0).ok_or("no object")?)?;
-    // Room, the call that fails, and how much was written then. Without a failed write the flush is call 1.
-    for (room, fails, written) in [
-        (0, 9, 0),
-        (100, 9, 100),
-        (1000, 0, 0),
-        (1000, 1, FIRST_PATH.len()),
-    ] {
-        let mut calls = Vec::new(alloc);
-        calls.push(fails)?;
-        let mut out = MemSink::new(alloc, room, 1000, calls)?;
-        let printed = print(alloc, FIRST_PATH_SCRIPT, &names, &run, &mut out);
+    let run = first_path(alloc)?;
+    for (room, fails, length) in faults(FIRST_PATH) {
+        let mut out = failing_sink(alloc, room, fails)?;
+        let printed = print_run(alloc, FIRST_PATH_SCRIPT, &run, &mut out)?;
         assert_eq!(rt; printed, Err(PrintFault::WriteFault));
-        assert_eq!(rt; out.bytes().len(), written);
-        assert!(rt; FIRST_PATH.as_bytes().starts_with(out.bytes()));
+        assert_front(&rt, &out, length, FIRST_PATH);
     }
     Ok(())
 }
@@ -206,29 +243,25 @@ fn a_sink_that_fails_has_a_front(rt: HostRuntime) -> Result<(), Fail> {
 const NAMES_SCRIPT: &[u8] =
     b"attrs 1\nmain\nclass C\nclass D C\nput C.zeta 1\nput C.b 1\nput C.B 1\nput C.ab 1\nput D.a 1\nnew v C\nend\n";
 
+/// What stands behind the first `end` and the empty line after it.
+fn behind_script(text: &[u8]) -> Option<&str> {
+    let (_, behind) = str::from_utf8(text).ok()?.split_once("end\n\n")?;
+    Some(behind)
+}
+
 /// What is printed behind the bytes of `NAMES_SCRIPT`.
 fn assert_prints(
     rt: &(impl Abort + Alloc<A = Global>),
     run: &Ran,
     expected: &str,
 ) -> Result<(), Fail> {
-    let alloc = rt.alloc();
-    let names = script_of(alloc, NAMES_SCRIPT)?;
-    let mut out = MemSink::new(alloc, 10_000, 10_000, Vec::new(alloc))?;
-    assert_eq!(rt; print(alloc, NAMES_SCRIPT, &names, run, &mut out), Ok(()));
-    let (_, text) = str::from_utf8(out.bytes())
-        .ok()
-        .ok_or("no text")?
-        .split_once("end\n\n")
-        .ok_or("no end")?;
-    assert_eq!(rt; text, expected);
+    let out = printed(rt, NAMES_SCRIPT, run, 10_000)?;
+    assert_eq!(rt; behind_script(out.bytes()), Some(expected));
     Ok(())
 }
 
-#[test]
-fn own_names_stand_by_their_bytes(rt: HostRuntime) -> Result<(), Fail> {
-    let alloc = rt.alloc();
-    // zeta, b, B, ab, a
+/// Objects with the first three, five and one of `zeta`, `b`, `B`, `ab` and `a`.
+fn named_objects(alloc: Global) -> Result<Vec<ObjEnd>, AllocError> {
     let mut own = Vec::new(alloc);
     for number in 5..10 {
         own.push((name(number), Value::Int(i32::from(number))))?;
@@ -241,9 +274,10 @@ fn own_names_stand_by_their_bytes(rt: HostRuntime) -> Result<(), Fail> {
             own: pairs(alloc, &own[..most])?,
         })?;
     }
-    let mut run = run_of(alloc, Vec::new(alloc));
-    run.last.objects = Sequence::of(objects);
-    let expected = "lines 0
+    Ok(objects)
+}
+
+const NAMED: &str = "lines 0
 final
 object #0 D
 .B 7
@@ -259,5 +293,11 @@ object #2 D
 .zeta 5
 end
 ";
-    assert_prints(&rt, &run, expected)
+
+#[test]
+fn own_names_stand_by_their_bytes(rt: HostRuntime) -> Result<(), Fail> {
+    let alloc = rt.alloc();
+    let mut run = run_of(alloc, Vec::new(alloc));
+    run.last.objects = Sequence::of(named_objects(alloc)?);
+    assert_prints(&rt, &run, NAMED)
 }

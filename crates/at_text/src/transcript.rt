@@ -1,9 +1,10 @@
 //! Printing a transcript.
-ghost use Rattle.std.specs.Prelude.{◌≡◌, ◌≤◌, Err, OnOk};
+ghost use Rattle.std.specs.Prelude.{◌≡◌, ◌≤◌, Err, OnOk, slice_get};
 ghost use Rattle.std.specs.Io.KnownBytes.{append_known};
 ghost use Rattle.at_source.specs.Faults.{Rose};
 ghost use Rattle.at_source.specs.Whole.{GrewByFront};
-ghost use Rattle.at_text.specs.Prints.{Prints};
+ghost use Rattle.at_text.specs.Lines.{line_text};
+ghost use Rattle.at_text.specs.Prints.{Prints, item_text};
 ghost use Rattle.at_text.specs.Transcript.{script_text, lines_text, text};
 
 use crate::last::put_final;
@@ -57,6 +58,16 @@ fn put_script<K: Sink>(out: &mut K, pen: &mut Pen, script: &[u8])
     pen.write(out, b"\n");
 }
 
+/// Prints the line at an index.
+#[inline]
+fn put_line_at<K: Sink>(out: &mut K, pen: &mut Pen, names: &Script, lines: &Lines, i: usize)
+    ensures { Prints (K.written out.old, K.faults out.old, pen.old) (K.written out.new, K.faults out.new, pen.new) (item_text (line_text names.now) (slice_get lines.now i)) }
+{
+    if let Some(line) = lines.at(i) {
+        put_line(out, pen, names, line);
+    }
+}
+
 /// Prints the lines behind their number.
 fn put_lines<K: Sink>(out: &mut K, pen: &mut Pen, names: &Script, lines: &Lines)
     ensures { Prints (K.written out.old, K.faults out.old, pen.old) (K.written out.new, K.faults out.new, pen.new) (lines_text names.now lines.now) }
@@ -64,8 +75,8 @@ fn put_lines<K: Sink>(out: &mut K, pen: &mut Pen, names: &Script, lines: &Lines)
     pen.write(out, b"lines ");
     pen.number(out, lines.len() as u64);
     pen.write(out, b"\n");
-    for line in lines.items() {
-        put_line(out, pen, names, line);
+    for i in 0..lines.len() {
+        put_line_at(out, pen, names, lines, i);
     }
 }
 

@@ -70,9 +70,7 @@ end
 fn each_operation_has_its_words(rt: HostRuntime) -> Result<(), Fail> {
     let alloc = rt.alloc();
     let mut lines = Vec::new(alloc);
-    let o = object(0).ok_or("no object")?;
-    let p = object(4095).ok_or("no object")?;
-    for op in operations(o, p) {
+    for op in operations(object(0)?, object(4095)?) {
         lines.push(did(op, LineReply::Of(Reply::Done)))?;
     }
     assert_prints(&rt, &run_of(alloc, lines), OPERATIONS)
@@ -203,7 +201,7 @@ end
 #[test]
 fn each_reply_has_its_words(rt: HostRuntime) -> Result<(), Fail> {
     let alloc = rt.alloc();
-    let o = object(9).ok_or("no object")?;
+    let o = object(9)?;
     let f = Func::new(0).ok_or("no function")?;
     let mut lines = reply_lines(alloc, o, f)?;
     lines.push(did(LineOp::Finish, LineReply::Kept))?;
@@ -263,7 +261,7 @@ end
 #[test]
 fn each_path_and_local_word_is_printed(rt: HostRuntime) -> Result<(), Fail> {
     let alloc = rt.alloc();
-    let o = object(2).ok_or("no object")?;
+    let o = object(2)?;
     let mut lines = Vec::new(alloc);
     for path in paths(o) {
         let op = LineOp::Of(Op::ClassOf(o));

@@ -5,11 +5,11 @@ use Rattle.at_text.specs.Last.{class_end_text}
 use Rattle.at_text.proofs.last.put_class_ends.Given as goal
 
 -- the classes that were printed so far
-abbrev pub invariant-loop-end : goal.invariant-loop-end
-invariant-loop-end g l = record {
+abbrev pub invariant-loop-i : goal.invariant-loop-i
+invariant-loop-i g l = record {
   text : Prints
       (g.K.Sink.written l.initial.out, g.K.Sink.faults l.initial.out, l.initial.pen)
       (g.K.Sink.written l.out, g.K.Sink.faults l.out, l.pen)
-      (flat_map (class_end_text l.names) (take l.end-index l.end-items));
+      (flat_map (class_end_text l.names) (take l.i l.ends));
   keys : l.order.keys ≡ l.initial.order.keys;
 }

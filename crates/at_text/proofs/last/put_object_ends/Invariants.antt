@@ -9,6 +9,6 @@ invariant-loop-number g l = record {
   text : Prints
       (g.K.Sink.written l.initial.out, g.K.Sink.faults l.initial.out, l.initial.pen)
       (g.K.Sink.written l.out, g.K.Sink.faults l.out, l.pen)
-      (object_ends_text l.names 0 (take l.number l.end-items));
+      (object_ends_text l.names 0 (take l.number l.ends));
   keys : l.order.keys ≡ l.initial.order.keys;
 }

@@ -1,19 +1,17 @@
-use Rattle.std.proofs.Common.{ap, length}
-use Rattle.std.specs.List.{flat_map}
+use Rattle.std.proofs.Common.{◌≤◌, length, arith}
 use Rattle.at_text.specs.Lines.{line_text}
-use Rattle.at_text.proofs.Printing.{prints_nothing, prints_number, prints_same, then_prints, then_item, all_items}
+use Rattle.at_text.proofs.Printing.{prints_nothing, prints_number, then_prints, then_next, all_items}
 use Rattle.at_text.proofs.transcript.put_lines.Goals as goal
 
-pub loop-line-init : goal.loop-line-init
-loop-line-init g c = prints_nothing _
+pub loop-i-init : goal.loop-i-init
+loop-i-init g c = prints_nothing _
 
-pub loop-line-preserved : goal.loop-line-preserved
-loop-line-preserved g c =
-    then_item (line_text c.args.names.now) c.items-line-items.result.now c.loop-line.line-index c.line-item.result c.loop-line-test.true c.line-item.is c.loop-line.invariant c.put_line.ensures
+pub loop-i-preserved : goal.loop-i-preserved
+loop-i-preserved g c = then_next (line_text c.args.names.now) c.args.lines.now c.loop-i.i c.loop-i.invariant c.put_line_at.ensures
 
 pub returns : goal.returns
 returns g c =
     let count = prints_number _ (length c.args.lines.now) c.len.ensures c.number.ensures in
-    let all = all_items (line_text c.args.names.now) c.items-line-items.result.now c.loop-line.line-index c.loop-line-test.false c.loop-line.invariant in
-    let lines = prints_same (ap (flat_map (line_text c.args.names.now)) c.items-line-items.ensures) all in
+    let over : length c.args.lines.now ≤ c.loop-i.i = omega arith in
+    let lines = all_items (line_text c.args.names.now) c.args.lines.now c.loop-i.i over c.loop-i.invariant in
     then_prints (then_prints (then_prints c.write.ensures count) c.write-2.ensures) lines

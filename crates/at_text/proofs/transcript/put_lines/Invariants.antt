@@ -4,9 +4,9 @@ use Rattle.at_text.specs.Prints.{Prints}
 use Rattle.at_text.specs.Lines.{line_text}
 use Rattle.at_text.proofs.transcript.put_lines.Given as goal
 
-abbrev pub invariant-loop-line : goal.invariant-loop-line
-invariant-loop-line g l =
+abbrev pub invariant-loop-i : goal.invariant-loop-i
+invariant-loop-i g l =
     Prints
     (g.K.Sink.written l.initial.out, g.K.Sink.faults l.initial.out, l.initial.pen)
     (g.K.Sink.written l.out, g.K.Sink.faults l.out, l.pen)
-    (flat_map (line_text l.names) (take l.line-index l.line-items))
+    (flat_map (line_text l.names) (take l.i l.lines))
