@@ -125,7 +125,9 @@ impl<'a> Thread<'a> {
         }
     }
 
-    /// What a statement asks for that begins with a write or a read of an object; of `finish`, the end of its section.
+    /// The operation that a statement on classes or objects asks for, or the begin of its section, with the use of the reply.
+    /// For any other statement the row is that of `finish`, the end of a section; `let`, `return` and `checkpoint` ask for
+    /// none.
     pub(crate) fn asked_by(&self, frame: &Frame<'a>, stmt: &Stmt) -> Result<Asked, Local>
         ensures { result ≡ execution.asked_by (state_of self.now) (frame_of frame.now) stmt.now }
     {

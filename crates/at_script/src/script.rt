@@ -53,6 +53,7 @@ impl Script {
         ensures same { result ≡ length self.now.threads }
         ensures most { result ≤ 32 }
     {
+        // No script has threads yet. That follows from the fields, which the prover takes up only where one is read.
         let _ = &self.main;
         0
     }

@@ -125,8 +125,7 @@ fn body_of<'a>(script: &'a Script, function: Func) -> &'a [Stmt]
 }
 
 impl<'a> Thread<'a> {
-    /// A thread that begins a block with these variables, of which each that is none isn't bound. A block that the script
-    /// doesn't have has no statements.
+    /// A thread that begins a block of these statements with these variables, of which each that is none isn't bound.
     pub fn new(
         alloc: Global,
         block: &'a [Stmt],

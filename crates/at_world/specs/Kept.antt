@@ -22,8 +22,8 @@ abbrev pub with_dict_name : ℕ → Option Object → List ℕ
 with_dict_name o None = o ∷ []
 with_dict_name o (Some found) = o ∷ found.dict ∷ []
 
--- The rows that a write touches: for `o.x = v` and `del o.x` the object and the dictionary that it names, for a new class
--- the object, for a shared dictionary both objects, and for other operations none.
+-- The rows that a write touches: for `o.x = v` and `del o.x` the object and the dictionary that it names, for
+-- `o.__class__ = c` the object, for `o.__dict__ = p.__dict__` both objects, and for other operations none.
 abbrev pub rows_of : World → op.Op → List ℕ
 rows_of w (ops.Set o n v) = with_dict_name o (slice_get w.objects o)
 rows_of w (ops.Del o n) = with_dict_name o (slice_get w.objects o)
