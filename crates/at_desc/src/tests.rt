@@ -133,9 +133,11 @@ fn an_instance_is_read(rt: HostRuntime) -> Result<(), Fail> {
         (descriptor(), three(true, false, false), own(), hook(), OWN),
         (descriptor(), three(false, true, true), own(), hook(), OWN),
         (descriptor(), three(false, true, false), own(), None, OWN),
+        (descriptor(), three(false, false, true), own(), hook(), OWN),
         (descriptor(), none(), own(), None, OWN),
         // the object's own value comes before all else
         (method(), none(), own(), hook(), OWN),
+        (static_method(), none(), own(), hook(), OWN),
         (class_method(), none(), own(), None, OWN),
         (Some(Value::Int(8)), none(), own(), None, OWN),
         (None, none(), own(), hook(), OWN),
@@ -171,6 +173,13 @@ fn an_instance_is_read(rt: HostRuntime) -> Result<(), Fail> {
         (
             descriptor(),
             three(false, true, true),
+            None,
+            hook(),
+            "Value(Obj(Obj(3)))",
+        ),
+        (
+            descriptor(),
+            three(false, false, true),
             None,
             hook(),
             "Value(Obj(Obj(3)))",
@@ -215,6 +224,7 @@ fn a_special_method_is_looked_up(rt: HostRuntime) -> Result<(), Fail> {
         (descriptor(), three(true, true, false), DESC_GET),
         (descriptor(), three(true, false, false), DESC_GET),
         (descriptor(), three(false, true, true), "Value(Obj(Obj(3)))"),
+        (descriptor(), none(), "Value(Obj(Obj(3)))"),
         (Some(Value::Int(8)), none(), "Value(Int(8))"),
         (None, none(), "NoAttr"),
     ];
@@ -281,6 +291,7 @@ fn an_attribute_is_written(rt: HostRuntime) -> Result<(), Fail> {
         (descriptor(), three(true, false, false), "Own"),
         (descriptor(), none(), "Own"),
         (method(), none(), "Own"),
+        (static_method(), none(), "Own"),
         (class_method(), none(), "Own"),
         (Some(Value::Nothing), none(), "Own"),
         (None, none(), "Own"),
