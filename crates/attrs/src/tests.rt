@@ -9,6 +9,7 @@ mod rows;
 
 use crate::command::{attrs, plain_text};
 use crate::gate::{Gate, OpenGate};
+use crate::laws;
 use crate::status::Status;
 use at_script::Cause;
 use at_source::{MemSink, MemSource};
@@ -212,4 +213,11 @@ fn long_inputs_are_refused(rt: HostRuntime) -> Result<(), Fail> {
         assert_eq!(rt; out.bytes(), wanted.as_bytes(), "{length}");
     }
     Ok(())
+}
+
+/// Each call does nothing: its contract is proved.
+#[test]
+fn laws_hold() {
+    laws::plain_runs_are_events();
+    laws::plain_runs_are_one();
 }

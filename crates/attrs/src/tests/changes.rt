@@ -3,7 +3,7 @@ use super::judging::{Breaks, broken_by};
 use crate::plain_run::run_main;
 use at_script::{Block, Script, read};
 use at_value::{Class, ClassList, Func, HookKind, Name, Obj, Op, Path, Place, Reply, Value};
-use at_world::{Line, LineOp, LineReply, Local, Ran, What};
+use at_world::{Line, LineOp, LineReply, Lines, Local, Ran, What};
 use std::alloc::{AllocError, Global};
 use std::process::Abort;
 use std::test::Fail;
@@ -176,6 +176,17 @@ fn number_anew(lines: &mut [Line]) {
     }
 }
 
+/// The lines of a run, in a vector of their own.
+fn lines_of(alloc: Global, lines: &Lines) -> Result<Vec<Line>, AllocError> {
+    let mut copy = Vec::new(alloc);
+    for i in 0..lines.len() {
+        if let Some(line) = lines.at(i) {
+            copy.push(line_copy(alloc, line)?)?;
+        }
+    }
+    Ok(copy)
+}
+
 /// The lines with the one at this index changed.
 fn changed(
     alloc: Global,
@@ -218,11 +229,11 @@ fn tries<R: Abort>(
 ) -> Result<(), Fail> {
     let script = read(alloc, text.as_bytes())?;
     let ran = run_of(alloc, &script)?;
-    let lines = ran.lines.items();
+    let lines = lines_of(alloc, &ran.lines)?;
     assert_eq!(rt; lines.len(), count);
-    assert_eq!(rt; broken_by(alloc, &script, lines)?, Breaks::Nothing);
+    assert_eq!(rt; broken_by(alloc, &script, &lines)?, Breaks::Nothing);
     for (i, (number, change, wanted)) in rows.iter().enumerate() {
-        let lines = changed(alloc, lines, number.saturating_sub(1), change)?;
+        let lines = changed(alloc, &lines, number.saturating_sub(1), change)?;
         assert!(rt; *wanted != Breaks::Nothing);
         assert_eq!(rt;
             broken_by(alloc, &script, &lines)?,
