@@ -33,9 +33,10 @@ const BYTES_MOST: usize = 1_048_576;
 /// of `class` isn't `object`. a is a variable, which is called as no class and no function is; R is a variable or a class;
 /// x is the name of an attribute, not `mro`, and if it begins and ends with `__` one of thirteen special names. V is
 /// `none`, a number of 32 bits, an identifier in double quotes, a class, a function F, `static:F`, `classm:F`,
-/// `prop:P,P,P` where P is a function or `-`, or a variable. An identifier has at most 32 bytes. There are at most 255
-/// classes with `object`, 4,096 names and texts with the five special names, 1,024 functions and 1,024 variables. All are
-/// numbered as they first stand in the script.
+/// `prop:P,P,P` where P is a function or `-`, or a variable. An identifier has at most 32 bytes, and is none of `none`,
+/// `self`, `arg`, `other`, `it` and `object`. There are at most 255 classes with `object`, 4,096 names and texts with the
+/// five special names, 1,024 functions and 1,024 variables. Classes and functions are numbered by the lines that declare
+/// them, names and variables as they first stand in the script.
 ///
 /// All other bytes are refused, with line 0 and `Cause::Script`.
 pub fn read(alloc: Global, bytes: &[u8]) -> Result<Script, ReadFault>
