@@ -1,5 +1,5 @@
 -- Bases in words, and the words of an operation read back.
-use Rattle.std.proofs.Common.{ℕ, zero, suc, ◌≢◌, inl, inr, ◌≡◌, ◌<◌, ◌≤◌, ◌+◌, ◌*◌, ◌^◌, ◌/◌, ◌%◌, ◌-◌, ◌↔◌, nat_le, true, List, [], ◌∷◌, ◌++◌, length, take, drop, get_or, Option, Some, None, ap, sym, subst, refl, ◌∙◌, arith, append_assoc, drop-cons, take-append-drop, length-append, length-drop}
+use Rattle.std.proofs.Common.{ℕ, zero, suc, ◌≢◌, inl, inr, ◌≡◌, ◌<◌, ◌≤◌, ◌+◌, ◌*◌, ◌^◌, ◌/◌, ◌%◌, ◌-◌, ◌↔◌, nat_le, true, List, [], ◌∷◌, ◌++◌, length, map, take, drop, get_or, Option, Some, None, ap, sym, subst, refl, ◌∙◌, arith, append_assoc, drop-cons, take-append-drop, length-append, length-drop}
 use Rattle.std.specs.Prelude.{option_map, min, Result, Ok, Err, OnOk, OnErr}
 use Rattle.std.proofs.lemmas.Bool.Decides.{nat_tests}
 use Rattle.std.proofs.lemmas.Nat.{mul-add-lt, shr_high, mod_low, pow-add}
@@ -12,11 +12,12 @@ use Rattle.at_value.specs.declared.value.Value as value
 use Rattle.at_value.specs.declared.operation.Op as op
 use Rattle.at_value.specs.declared.operation.Op.TheVariants as ops
 use Rattle.at_value.specs.Classes.{AreClasses}
-use Rattle.at_value.specs.Widths.{classes, operation_bits, subject_bits, second_bits, attribute_bits, base_bits, bases_a_word}
+use Rattle.at_value.specs.Widths.{classes, most_bases, operation_bits, subject_bits, second_bits, attribute_bits, base_bits, bases_a_word, bases_words}
 use Rattle.at_value.specs.Words.{IsValue, word_of}
-use Rattle.at_value.specs.Packing.{IsBases, IsOp, heading, row_word, row_words, bases_words, words_of, HasWords}
+use Rattle.at_value.specs.Fields.{number_of, bits_of, AreWithin, FitWord, FitWords}
+use Rattle.at_value.specs.Packing.{IsBases, IsOp, heading_fields, row_fields, rows_fields, bases_fields, words_fields, words_of, HasWords}
 use Rattle.at_value.specs.Reading.{below, value_at}
-use Rattle.at_value.proofs.Words.{below_gives, word_exact}
+use Rattle.at_value.proofs.Words.{below_gives, word_exact, value_fits}
 use Rattle.at_value.specs.ReadingOps.{with_two, classes_in, classes_of_words, bases_at, heading_at, op_at}
 
 -- One more number goes into the lowest bits: the word stays within the bits of all.
@@ -29,13 +30,13 @@ word_grows width k word c small lt =
 
 -- one more number in the word of those that follow it
 pub base_put : (width : ℕ) (bases : List ℕ) (old i word c d : ℕ) → old ≡ suc i → old ≤ length bases → word < 2 ^ (width * (length bases - old))
-    → word ≡ row_word width (drop old bases) → c ≡ get_or bases i d → c < 2 ^ width
-    → (word * 2 ^ width + c < 2 ^ (width * (length bases - i))) × (word * 2 ^ width + c ≡ row_word width (drop i bases))
+    → word ≡ number_of (row_fields width (drop old bases)) → c ≡ get_or bases i d → c < 2 ^ width
+    → (word * 2 ^ width + c < 2 ^ (width * (length bases - i))) × (word * 2 ^ width + c ≡ number_of (row_fields width (drop i bases)))
 base_put width bases old i word c d e in_list small was here base =
     let in_list' : i < length bases = omega arith in
     let more : suc (length bases - old) ≡ length bases - i = omega arith in
     let grown = word_grows width (length bases - old) word c small base in
-    let was' : word ≡ row_word width (drop (suc i) bases) = rw e at was in
+    let was' : word ≡ number_of (row_fields width (drop (suc i) bases)) = rw e at was in
     let front = drop-cons bases i d in_list' in
     (rw more at grown, rw (front, ← was', here) refl)
 
@@ -80,10 +81,10 @@ at_most : (m n : ℕ) → m ≤ n → nat_le m n ≡ true
 at_most m n h = grind (arith, nat_tests)
 
 -- one more base, read before those that are left
-joined : (done : List ℕ) (c : ℕ) (left : Option (List ℕ))
+joined_base : (done : List ℕ) (c : ℕ) (left : Option (List ℕ))
     → option_map (λ more. (done ++ c ∷ []) ++ more) left ≡ option_map (λ more. done ++ more) (with_two (λ b bs. b ∷ bs) (Some c) left)
-joined done c None = refl
-joined done c (Some more) = ap Some (append_assoc done (c ∷ []) more)
+joined_base done c None = refl
+joined_base done c (Some more) = ap Some (append_assoc done (c ∷ []) more)
 
 -- a class that is read goes to the end of those that were read
 pub base_read : (width left n word low above c : ℕ) (done all : List ℕ) (o : Option (List ℕ)) → left ≡ suc n → low ≡ word % 2 ^ width → above ≡ word / 2 ^ width
@@ -93,7 +94,7 @@ base_read width left n word low above c done all o e is_low is_above class grown
     let now : option_map (λ more. done ++ more) (classes_in width (suc n) word) ≡ o = rw e at was in
     let read : below classes (word % 2 ^ width) ≡ Some c = rw is_low at class in
     let now' : option_map (λ more. done ++ more) (with_two (λ b bs. b ∷ bs) (Some c) (classes_in width n (word / 2 ^ width))) ≡ o = rw read at now in
-    rw (grown, is_above) (joined done c (classes_in width n (word / 2 ^ width)) ∙ now')
+    rw (grown, is_above) (joined_base done c (classes_in width n (word / 2 ^ width)) ∙ now')
 
 -- what holds of a success, where what holds of an error is false
 pub ok_of : {A E P Q : Type 0} (r : Result A E) → OnOk r P → OnErr r Q → ¬ Q → P
@@ -147,12 +148,12 @@ row_read width each left here word words all_words done all o is_here is_all gro
     ] refl grown was'
 
 -- as many bases as there may be
-pub bases_at_most : (count : ℕ) (words : List ℕ) → count ≤ 8 → bases_at count words ≡ classes_of_words base_bits bases_a_word count words
-bases_at_most count words h = let test = at_most count 8 h in rw test refl
+pub bases_at_most : (count : ℕ) (words : List ℕ) → count ≤ most_bases → bases_at count words ≡ classes_of_words base_bits bases_a_word count words
+bases_at_most count words h = let test = at_most count most_bases h in rw test refl
 
 -- the fields of word 0 are read back
 head_back : (k s t n : ℕ) → k < 2 ^ operation_bits → s < 2 ^ subject_bits → t < 2 ^ second_bits → n < 2 ^ attribute_bits
-    → heading_at (heading k s t n) ≡ record { kind = k; subject = s; second = t; name = n }
+    → heading_at (number_of (heading_fields k s t n)) ≡ record { kind = k; subject = s; second = t; name = n }
 head_back k s t n k_fits s_fits t_fits n_fits =
     let top = 0 * 2 ^ attribute_bits + n in
     let high = top * 2 ^ second_bits + t in
@@ -168,30 +169,30 @@ head_back k s t n k_fits s_fits t_fits n_fits =
     ) refl
 
 -- classes are read back, where so many bits hold each
-classes_back : (width : ℕ) → classes ≤ 2 ^ width → (bases : List ℕ) → AreClasses bases → classes_in width (length bases) (row_word width bases) ≡ Some bases
+classes_back : (width : ℕ) → classes ≤ 2 ^ width → (bases : List ℕ) → AreClasses bases → classes_in width (length bases) (number_of (row_fields width bases)) ≡ Some bases
 classes_back width wide [] h = refl
 classes_back width wide (c ∷ cs) h =
     let small : c < 2 ^ width = omega (arith, h 0) in
-    let low = mod_low (row_word width cs) width c small in
-    let high = shr_high (row_word width cs) width c small in
+    let low = mod_low (number_of (row_fields width cs)) width c small in
+    let high = shr_high (number_of (row_fields width cs)) width c small in
     rw (low, high, below_gives _ c (h 0), classes_back width wide cs (λ i. h (suc i))) refl
 
 -- and from several words, where so many a word hold them all
 rows_back : (width each : ℕ) → classes ≤ 2 ^ width → (words : ℕ) (bases : List ℕ) → AreClasses bases → length bases ≤ words * each
-    → classes_of_words width each (length bases) (row_words width each words bases) ≡ Some bases
+    → classes_of_words width each (length bases) (map number_of (rows_fields width each words bases)) ≡ Some bases
 rows_back width each wide zero [] h fits = refl
 rows_back width each wide zero (c ∷ cs) h fits = absurd (omega arith)
 rows_back width each wide (suc words) bases h fits =
-    let front : classes_in width (length (take each bases)) (row_word width (take each bases)) ≡ Some (take each bases) = classes_back width wide (take each bases) (are_classes_in_front each bases h) in
+    let front : classes_in width (length (take each bases)) (number_of (row_fields width (take each bases))) ≡ Some (take each bases) = classes_back width wide (take each bases) (are_classes_in_front each bases h) in
     let here : min (length bases) each ≡ length (take each bases) = sym (length-take each bases ∙ min_comm each (length bases)) in
     let left : length bases - each ≡ length (drop each bases) = sym (length-drop each bases) in
     let fits' : length (drop each bases) ≤ words * each = let left' = left in omega arith in
     let behind = rows_back width each wide words (drop each bases) (are_classes_behind each bases h) fits' in
     rw (here, front, left, behind) (ap Some (take-append-drop each bases))
 
-bases_back : (bases : List ℕ) → IsBases bases → bases_at (length bases) (bases_words bases) ≡ Some bases
+bases_back : (bases : List ℕ) → IsBases bases → bases_at (length bases) (map number_of (bases_fields bases)) ≡ Some bases
 bases_back bases h =
-    bases_at_most (length bases) (bases_words bases) h.0 ∙ rows_back base_bits bases_a_word (omega arith) 3 bases h.1 (omega (arith, h.0))
+    bases_at_most (length bases) (map number_of (bases_fields bases)) h.0 ∙ rows_back base_bits bases_a_word (omega arith) bases_words bases h.1 (omega (arith, h.0))
 
 value_back : (v : value.Value) → IsValue v → value_at (word_of v) ≡ Some v
 value_back v h = (word_exact (word_of v) v).1 (h, refl)
@@ -206,16 +207,16 @@ op_in words = op_at (heading_at (get_or words 0 0)) (behind words)
 
 -- what is read from a word 0 with these fields
 head_read : (k s t n : ℕ) (words : List ℕ) (o : op.Op) → k < 2 ^ operation_bits → s < 2 ^ subject_bits → t < 2 ^ second_bits → n < 2 ^ attribute_bits
-    → op_at (record { kind = k; subject = s; second = t; name = n }) (behind (heading k s t n ∷ words)) ≡ Some o → op_in (heading k s t n ∷ words) ≡ Some o
+    → op_at (record { kind = k; subject = s; second = t; name = n }) (behind (number_of (heading_fields k s t n) ∷ words)) ≡ Some o → op_in (number_of (heading_fields k s t n) ∷ words) ≡ Some o
 head_read k s t n words o k_fits s_fits t_fits n_fits read =
-    ap (λ h. op_at h (behind (heading k s t n ∷ words))) (head_back k s t n k_fits s_fits t_fits n_fits) ∙ read
+    ap (λ h. op_at h (behind (number_of (heading_fields k s t n) ∷ words))) (head_back k s t n k_fits s_fits t_fits n_fits) ∙ read
 
 -- an operation's words are read as that operation
 op_back : (o : op.Op) → IsOp o → op_in (words_of o) ≡ Some o
-op_back (ops.NewClass c bases) h = head_read 1 c (length bases) 0 (bases_words bases) _ (omega arith) (omega (arith, h.0)) (omega (arith, h.1.0)) (omega arith) (rw (below_gives _ c h.0, bases_back bases h.1) refl)
+op_back (ops.NewClass c bases) h = head_read 1 c (length bases) 0 (map number_of (bases_fields bases)) _ (omega arith) (omega (arith, h.0)) (omega (arith, h.1.0)) (omega arith) (rw (below_gives _ c h.0, bases_back bases h.1) refl)
 op_back (ops.TypeSet c n v) h = head_read 2 c 0 n (word_of v ∷ 0 ∷ 0 ∷ []) _ (omega arith) (omega (arith, h.0)) (omega arith) (omega (arith, h.1)) (rw (below_gives _ c h.0, below_gives _ n h.1, value_back v h.2) refl)
 op_back (ops.TypeDel c n) h = head_read 3 c 0 n (0 ∷ 0 ∷ 0 ∷ []) _ (omega arith) (omega (arith, h.0)) (omega arith) (omega (arith, h.1)) (rw (below_gives _ c h.0, below_gives _ n h.1) refl)
-op_back (ops.SetBases c bases) h = head_read 4 c (length bases) 0 (bases_words bases) _ (omega arith) (omega (arith, h.0)) (omega (arith, h.1.0)) (omega arith) (rw (below_gives _ c h.0, bases_back bases h.1) refl)
+op_back (ops.SetBases c bases) h = head_read 4 c (length bases) 0 (map number_of (bases_fields bases)) _ (omega arith) (omega (arith, h.0)) (omega (arith, h.1.0)) (omega arith) (rw (below_gives _ c h.0, bases_back bases h.1) refl)
 op_back (ops.New c) h = head_read 5 c 0 0 (0 ∷ 0 ∷ 0 ∷ []) _ (omega arith) (omega arith) (omega arith) (omega arith) (rw (below_gives _ c h) refl)
 op_back (ops.Set o n v) h = head_read 6 o 0 n (word_of v ∷ 0 ∷ 0 ∷ []) _ (omega arith) (omega (arith, h.0)) (omega arith) (omega (arith, h.1)) (rw (below_gives _ o h.0, below_gives _ n h.1, value_back v h.2) refl)
 op_back (ops.Del o n) h = head_read 7 o 0 n (0 ∷ 0 ∷ 0 ∷ []) _ (omega arith) (omega (arith, h.0)) (omega arith) (omega (arith, h.1)) (rw (below_gives _ o h.0, below_gives _ n h.1) refl)
@@ -253,3 +254,57 @@ one_operation o p o_fits p_fits same =
     let first = op_of_words o (words_of p) (o_fits, same) in
     let second = op_back p p_fits in
     cc
+
+-- the fields of word 0 fit
+heading_fits : (k s t n : ℕ) → k < 2 ^ operation_bits → s < 2 ^ subject_bits → t < 2 ^ second_bits → n < 2 ^ attribute_bits → FitWord (heading_fields k s t n)
+heading_fits k s t n k_fits s_fits t_fits n_fits = ((k_fits, (s_fits, (t_fits, (n_fits, tt)))), omega arith)
+
+-- a word without fields fits, and so do two and three of them
+unused : FitWord []
+unused = (tt, omega arith)
+
+two_unused : FitWords ([] ∷ [] ∷ [])
+two_unused = (unused, (unused, tt))
+
+three_unused : FitWords ([] ∷ [] ∷ [] ∷ [])
+three_unused = (unused, two_unused)
+
+-- classes in a row fit, where so many bits hold each
+row_within : (width : ℕ) → classes ≤ 2 ^ width → (bases : List ℕ) → AreClasses bases → AreWithin (row_fields width bases)
+row_within width wide [] h = tt
+row_within width wide (c ∷ cs) h = (omega (arith, h 0), row_within width wide cs (λ i. h (suc i)))
+
+row_bits : (width : ℕ) (bases : List ℕ) → bits_of (row_fields width bases) ≡ width * length bases
+row_bits width [] = omega arith
+row_bits width (c ∷ cs) = let rest = row_bits width cs in omega arith
+
+-- and in rows, where so many of them have room in a word
+rows_fit : (width each : ℕ) → classes ≤ 2 ^ width → width * each ≤ 64 → (words : ℕ) (bases : List ℕ) → AreClasses bases → FitWords (rows_fields width each words bases)
+rows_fit width each wide room zero bases h = tt
+rows_fit width each wide room (suc words) bases h =
+    let front = take each bases in
+    let few : length front ≤ each = rw (length-take each bases) (min-le_left each (length bases)) in
+    let bits : bits_of (row_fields width front) ≤ 64 = rw (row_bits width front) (le_trans (mul-le-mul_left width few) room) in
+    let within = row_within width wide front (are_classes_in_front each bases h) in
+    ((within, bits), rows_fit width each wide room words (drop each bases) (are_classes_behind each bases h))
+
+bases_fit : (bases : List ℕ) → IsBases bases → FitWords (bases_fields bases)
+bases_fit bases h = rows_fit base_bits bases_a_word (omega arith) (omega arith) bases_words bases h.1
+
+-- each number of an operation in range fits into its field, and all fields into their word
+pub operation_fits : (o : op.Op) → IsOp o → FitWords (words_fields o)
+operation_fits (ops.NewClass c bases) h = (heading_fits 1 c (length bases) 0 (omega arith) (omega (arith, h.0)) (omega (arith, h.1.0)) (omega arith), bases_fit bases h.1)
+operation_fits (ops.TypeSet c n v) h = (heading_fits 2 c 0 n (omega arith) (omega (arith, h.0)) (omega arith) (omega (arith, h.1)), (value_fits v h.2, two_unused))
+operation_fits (ops.TypeDel c n) h = (heading_fits 3 c 0 n (omega arith) (omega (arith, h.0)) (omega arith) (omega (arith, h.1)), three_unused)
+operation_fits (ops.SetBases c bases) h = (heading_fits 4 c (length bases) 0 (omega arith) (omega (arith, h.0)) (omega (arith, h.1.0)) (omega arith), bases_fit bases h.1)
+operation_fits (ops.New c) h = (heading_fits 5 c 0 0 (omega arith) (omega arith) (omega arith) (omega arith), three_unused)
+operation_fits (ops.Set o n v) h = (heading_fits 6 o 0 n (omega arith) (omega (arith, h.0)) (omega arith) (omega (arith, h.1)), (value_fits v h.2, two_unused))
+operation_fits (ops.Del o n) h = (heading_fits 7 o 0 n (omega arith) (omega (arith, h.0)) (omega arith) (omega (arith, h.1)), three_unused)
+operation_fits (ops.SetClass o c) h = (heading_fits 8 o c 0 (omega arith) (omega (arith, h.0)) (omega (arith, h.1)) (omega arith), three_unused)
+operation_fits (ops.Share o q) h = (heading_fits 9 o q 0 (omega arith) (omega (arith, h.0)) (omega (arith, h.1)) (omega arith), three_unused)
+operation_fits (ops.Get o n) h = (heading_fits 10 o 0 n (omega arith) (omega (arith, h.0)) (omega arith) (omega (arith, h.1)), three_unused)
+operation_fits (ops.TypeGet c n) h = (heading_fits 11 c 0 n (omega arith) (omega (arith, h.0)) (omega arith) (omega (arith, h.1)), three_unused)
+operation_fits (ops.Super k o n) h = (heading_fits 12 o k n (omega arith) (omega (arith, h.1)) (omega (arith, h.0)) (omega (arith, h.2)), three_unused)
+operation_fits (ops.Special o n) h = (heading_fits 13 o 0 n (omega arith) (omega (arith, h.0)) (omega arith) (omega (arith, h.1)), three_unused)
+operation_fits (ops.ClassOf o) h = (heading_fits 14 o 0 0 (omega arith) (omega arith) (omega arith) (omega arith), three_unused)
+operation_fits (ops.Mro c) h = (heading_fits 15 c 0 0 (omega arith) (omega arith) (omega arith) (omega arith), three_unused)

@@ -9,8 +9,10 @@ use Rattle.std.proofs.lemmas.Nat.{shr_high, mod_low, div-add-mod'}
 use Rattle.at_value.specs.declared.value.Value as value
 use Rattle.at_value.specs.declared.value.Value.TheVariants as values
 use Rattle.at_value.specs.Parts.{Parts, part, held, IsPart}
+use Rattle.at_value.specs.Properties.{held-part}
 use Rattle.at_value.specs.Widths.{names, objects, classes, functions, kind_bits, integer_bits, part_bits}
-use Rattle.at_value.specs.Words.{IsValue, word_of, HasWord}
+use Rattle.at_value.specs.Fields.{FitWord}
+use Rattle.at_value.specs.Words.{IsValue, fields_of, word_of, HasWord}
 use Rattle.at_value.specs.Reading.{below, parts_at, value_at_kind, value_at}
 
 -- A choice that gave x: a goal from the branch that gave it.
@@ -43,14 +45,10 @@ below_made make bound n x e = elim (nat_lt n bound) as (λ t. nat_lt n bound ≡
   | false ↦ λ test e'. absurd (cc)
 ] refl e
 
--- a part is held by the number that it came from, and is that of the number that holds it
+-- a part is that of the number that holds it
 pub part-held : (o : Option ℕ) → part (held o) ≡ o
 part-held None = refl
 part-held (Some f) = refl
-
-held-part : (n : ℕ) → held (part n) ≡ n
-held-part zero = refl
-held-part (suc f) = refl
 
 held_within : (o : Option ℕ) → IsPart o → held o < suc functions
 held_within None h = omega arith
@@ -60,8 +58,8 @@ IsPart-part : (n : ℕ) → n < suc functions → IsPart (part n)
 IsPart-part zero h = tt
 IsPart-part (suc f) h = omega arith
 
--- the bits of an integer of 32 bits
-bits_within : (z : ℤ) → FitsSigned w32 z → cast_unsigned w32 z < 2 ^ 32
+-- the bits of an integer
+bits_within : (z : ℤ) → FitsSigned w32 z → cast_unsigned w32 z < 2 ^ integer_bits
 bits_within (pos n) h = grind arith
 bits_within (negsuc n) h = omega arith
 
@@ -190,3 +188,19 @@ one_value u v u_fits v_fits same =
     let first = (word_exact (word_of v) u).1 (u_fits, same) in
     let second = (word_exact (word_of v) v).1 (v_fits, refl) in
     cc
+
+-- each number of a value in range fits into its field, and all fields into the word
+pub value_fits : (v : value.Value) → IsValue v → FitWord (fields_of v)
+value_fits values.Nothing h = ((omega arith, tt), omega arith)
+value_fits (values.Int i) h = ((omega arith, (bits_within i h, tt)), omega arith)
+value_fits (values.Text n) h = ((omega arith, (omega arith, tt)), omega arith)
+value_fits (values.Func f) h = ((omega arith, (omega arith, tt)), omega arith)
+value_fits (values.Prop p) h =
+    let get = held_within p.get h.0 in
+    let set = held_within p.set h.1 in
+    let del = held_within p.del h.2 in
+    ((omega arith, (omega arith, (omega arith, (omega arith, tt)))), omega arith)
+value_fits (values.Static f) h = ((omega arith, (omega arith, tt)), omega arith)
+value_fits (values.ClassM f) h = ((omega arith, (omega arith, tt)), omega arith)
+value_fits (values.Class c) h = ((omega arith, (omega arith, tt)), omega arith)
+value_fits (values.Obj o) h = ((omega arith, (omega arith, tt)), omega arith)

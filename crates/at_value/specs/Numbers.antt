@@ -1,8 +1,8 @@
 -- The names and the class that every script has.
 use Rattle.std.specs.Prelude.{ℕ}
 
--- The special names that attribute access looks up on classes, in the order in which they are numbered: `__get__`,
--- `__set__` and `__delete__` of a descriptor, `__getattr__`, which answers where nothing else did, and `__init__`.
+-- The special names, which are looked up on classes, in the order in which they are numbered: `__get__`, `__set__` and
+-- `__delete__` of a descriptor, `__getattr__`, which answers where nothing else did, and `__init__`, for a new object.
 abbrev pub descriptor_get : ℕ
 descriptor_get = 0
 

@@ -3,9 +3,9 @@ use Rattle.std.specs.Prelude.{ℕ, zero, suc, ◌≡◌, ◌<◌, ◌≤◌, Lis
 use Rattle.at_value.specs.declared.operation.Op as op
 use Rattle.at_value.specs.declared.operation.Op.TheVariants as ops
 use Rattle.at_value.specs.Classes.{AreClasses}
-use Rattle.at_value.specs.Widths.{names, objects, classes, operation_bits, subject_bits, second_bits, attribute_bits, base_bits, bases_a_word}
-use Rattle.at_value.specs.Fields.{field, number_of}
-use Rattle.at_value.specs.Words.{IsValue, word_of}
+use Rattle.at_value.specs.Widths.{names, objects, classes, most_bases, operation_bits, subject_bits, second_bits, attribute_bits, base_bits, bases_a_word, bases_words}
+use Rattle.at_value.specs.Fields.{Field, field, number_of}
+use Rattle.at_value.specs.Words.{IsValue, fields_of}
 
 -- the numbers of classes, objects and names that there may be
 abbrev pub IsClass : ℕ → Type 0
@@ -17,9 +17,9 @@ IsObject o = o < objects
 abbrev pub IsName : ℕ → Type 0
 IsName n = n < names
 
--- at most eight bases
+-- no more bases than a class may have
 abbrev pub IsBases : List ℕ → Type 0
-IsBases bases = (length bases ≤ 8) × AreClasses bases
+IsBases bases = (length bases ≤ most_bases) × AreClasses bases
 
 -- each number of the operation is in its range
 abbrev pub IsOp : op.Op → Type 0
@@ -39,41 +39,46 @@ IsOp (ops.Special o n) = IsObject o × IsName n
 IsOp (ops.ClassOf o) = IsObject o
 IsOp (ops.Mro c) = IsClass c
 
--- Word 0 from bit 0 on: the kind of the operation, the class or object that it is done to, a second number, and a name.
-abbrev pub heading : ℕ → ℕ → ℕ → ℕ → ℕ
-heading kind subject second name =
-    number_of (field operation_bits kind ∷ field subject_bits subject ∷ field second_bits second ∷ field attribute_bits name ∷ [])
+-- The fields of word 0 from bit 0 on: the kind of the operation, the class or object that it is done to, a second number, and
+-- a name.
+abbrev pub heading_fields : ℕ → ℕ → ℕ → ℕ → List Field
+heading_fields kind subject second name =
+    field operation_bits kind ∷ field subject_bits subject ∷ field second_bits second ∷ field attribute_bits name ∷ []
 
 -- numbers in one word, each in so many bits, the first from bit 0 on
-abbrev pub row_word : ℕ → List ℕ → ℕ
-row_word width numbers = number_of (map (field width) numbers)
+abbrev pub row_fields : ℕ → List ℕ → List Field
+row_fields width numbers = map (field width) numbers
 
 -- numbers in so many words, each number in so many bits and so many numbers a word, the first in word 0 from bit 0 on
-abbrev pub row_words : (width each words : ℕ) → List ℕ → List ℕ
-row_words width each zero numbers = []
-row_words width each (suc words) numbers = row_word width (take each numbers) ∷ row_words width each words (drop each numbers)
+abbrev pub rows_fields : (width each words : ℕ) → List ℕ → List (List Field)
+rows_fields width each zero numbers = []
+rows_fields width each (suc words) numbers = row_fields width (take each numbers) ∷ rows_fields width each words (drop each numbers)
 
--- bases in three words
-abbrev pub bases_words : List ℕ → List ℕ
-bases_words bases = row_words base_bits bases_a_word 3 bases
+-- the fields of the words behind word 0 that have bases
+abbrev pub bases_fields : List ℕ → List (List Field)
+bases_fields bases = rows_fields base_bits bases_a_word bases_words bases
 
--- The four words of an operation. What an operation hasn't is 0.
+-- The fields of the four words of an operation. What an operation hasn't is 0, and a word that it doesn't use has no fields.
+abbrev pub words_fields : op.Op → List (List Field)
+words_fields (ops.NewClass c bases) = heading_fields 1 c (length bases) 0 ∷ bases_fields bases
+words_fields (ops.TypeSet c n v) = heading_fields 2 c 0 n ∷ fields_of v ∷ [] ∷ [] ∷ []
+words_fields (ops.TypeDel c n) = heading_fields 3 c 0 n ∷ [] ∷ [] ∷ [] ∷ []
+words_fields (ops.SetBases c bases) = heading_fields 4 c (length bases) 0 ∷ bases_fields bases
+words_fields (ops.New c) = heading_fields 5 c 0 0 ∷ [] ∷ [] ∷ [] ∷ []
+words_fields (ops.Set o n v) = heading_fields 6 o 0 n ∷ fields_of v ∷ [] ∷ [] ∷ []
+words_fields (ops.Del o n) = heading_fields 7 o 0 n ∷ [] ∷ [] ∷ [] ∷ []
+words_fields (ops.SetClass o c) = heading_fields 8 o c 0 ∷ [] ∷ [] ∷ [] ∷ []
+words_fields (ops.Share o q) = heading_fields 9 o q 0 ∷ [] ∷ [] ∷ [] ∷ []
+words_fields (ops.Get o n) = heading_fields 10 o 0 n ∷ [] ∷ [] ∷ [] ∷ []
+words_fields (ops.TypeGet c n) = heading_fields 11 c 0 n ∷ [] ∷ [] ∷ [] ∷ []
+words_fields (ops.Super k o n) = heading_fields 12 o k n ∷ [] ∷ [] ∷ [] ∷ []
+words_fields (ops.Special o n) = heading_fields 13 o 0 n ∷ [] ∷ [] ∷ [] ∷ []
+words_fields (ops.ClassOf o) = heading_fields 14 o 0 0 ∷ [] ∷ [] ∷ [] ∷ []
+words_fields (ops.Mro c) = heading_fields 15 c 0 0 ∷ [] ∷ [] ∷ [] ∷ []
+
+-- the four words of an operation
 abbrev pub words_of : op.Op → List ℕ
-words_of (ops.NewClass c bases) = heading 1 c (length bases) 0 ∷ bases_words bases
-words_of (ops.TypeSet c n v) = heading 2 c 0 n ∷ word_of v ∷ 0 ∷ 0 ∷ []
-words_of (ops.TypeDel c n) = heading 3 c 0 n ∷ 0 ∷ 0 ∷ 0 ∷ []
-words_of (ops.SetBases c bases) = heading 4 c (length bases) 0 ∷ bases_words bases
-words_of (ops.New c) = heading 5 c 0 0 ∷ 0 ∷ 0 ∷ 0 ∷ []
-words_of (ops.Set o n v) = heading 6 o 0 n ∷ word_of v ∷ 0 ∷ 0 ∷ []
-words_of (ops.Del o n) = heading 7 o 0 n ∷ 0 ∷ 0 ∷ 0 ∷ []
-words_of (ops.SetClass o c) = heading 8 o c 0 ∷ 0 ∷ 0 ∷ 0 ∷ []
-words_of (ops.Share o q) = heading 9 o q 0 ∷ 0 ∷ 0 ∷ 0 ∷ []
-words_of (ops.Get o n) = heading 10 o 0 n ∷ 0 ∷ 0 ∷ 0 ∷ []
-words_of (ops.TypeGet c n) = heading 11 c 0 n ∷ 0 ∷ 0 ∷ 0 ∷ []
-words_of (ops.Super k o n) = heading 12 o k n ∷ 0 ∷ 0 ∷ 0 ∷ []
-words_of (ops.Special o n) = heading 13 o 0 n ∷ 0 ∷ 0 ∷ 0 ∷ []
-words_of (ops.ClassOf o) = heading 14 o 0 0 ∷ 0 ∷ 0 ∷ 0 ∷ []
-words_of (ops.Mro c) = heading 15 c 0 0 ∷ 0 ∷ 0 ∷ 0 ∷ []
+words_of o = map number_of (words_fields o)
 
 -- o is in range, and these are its words
 abbrev pub HasWords : op.Op → List ℕ → Type 0

@@ -4,7 +4,7 @@ use Rattle.std.specs.Prelude.{ℕ, zero, suc, ◌/◌, ◌%◌, ◌^◌, ◌-◌
 use Rattle.at_value.specs.declared.operation.Op as op
 use Rattle.at_value.specs.declared.operation.Op.TheVariants as ops
 use Rattle.at_value.specs.declared.packing.Heading.{Heading}
-use Rattle.at_value.specs.Widths.{names, objects, classes, operation_bits, subject_bits, second_bits, attribute_bits, base_bits, bases_a_word}
+use Rattle.at_value.specs.Widths.{names, objects, classes, most_bases, operation_bits, subject_bits, second_bits, attribute_bits, base_bits, bases_a_word}
 use Rattle.at_value.specs.Reading.{below, value_at}
 
 -- what is made of two parts, and of three, where they are there
@@ -30,7 +30,7 @@ classes_of_words width each count (word ∷ words) =
 
 -- so many bases in these words
 abbrev pub bases_at : ℕ → List ℕ → Option (List ℕ)
-bases_at count words = if nat_le count 8 then classes_of_words base_bits bases_a_word count words else None
+bases_at count words = if nat_le count most_bases then classes_of_words base_bits bases_a_word count words else None
 
 -- the fields of word 0
 abbrev pub heading_at : ℕ → Heading

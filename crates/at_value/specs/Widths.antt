@@ -1,7 +1,7 @@
 -- How many numbers of each kind there may be, and how wide each stands in words. The widths are this project's own.
 use Rattle.std.specs.Prelude.{ℕ}
 
--- names, objects, classes and functions
+-- names and texts together, objects, classes and functions
 abbrev pub names : ℕ
 names = 4096
 
@@ -13,6 +13,10 @@ classes = 255
 
 abbrev pub functions : ℕ
 functions = 1024
+
+-- bases of one class
+abbrev pub most_bases : ℕ
+most_bases = 8
 
 -- in the word of a value: its kind, an integer, a name or text, an object, a class, a function, and each part of a property
 abbrev pub kind_bits : ℕ
@@ -49,9 +53,12 @@ second_bits = 16
 abbrev pub attribute_bits : ℕ
 attribute_bits = 16
 
--- in the words behind it: each base, and how many bases stand in one word
+-- in the words behind it: each base, how many bases stand in one word, and how many words have bases
 abbrev pub base_bits : ℕ
 base_bits = 8
 
 abbrev pub bases_a_word : ℕ
 bases_a_word = 8
+
+abbrev pub bases_words : ℕ
+bases_words = 3

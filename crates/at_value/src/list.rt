@@ -1,6 +1,7 @@
 //! Short lists of classes. Contracts see each as the list of the classes' numbers.
 ghost use Rattle.std.specs.Prelude.{◌≡◌, ◌<◌, ◌≤◌, ℕ, List, [], ◌∷◌, ◌++◌, length, IfOk, IsTrue, ◌↔◌, OnOk, OnErr, slice_get};
 ghost use Rattle.at_value.specs.Classes.{AreClasses};
+ghost use Rattle.at_value.specs.Widths.{most_bases};
 
 use crate::number::Class;
 use std::alloc::{AllocError, Global};
@@ -13,7 +14,7 @@ pub struct BasesFull;
 /// The bases of a class: at most eight classes, in order. Unused cells hold class 0.
 #[derive(Clone, Copy, Debug, PartialEq, Eq)]
 pub struct Bases {
-    items: [Class; 8],
+    items: [Class; Bases::MOST],
     len: u8,
 }
 
@@ -42,7 +43,7 @@ impl Bases {
         ensures { result ≡ [] }
     {
         Bases {
-            items: [Class::object(); 8],
+            items: [Class::object(); Self::MOST],
             len: 0,
         }
     }
@@ -58,8 +59,8 @@ impl Bases {
 
     /// Adds a class at the end. It answers `BasesFull` exactly where eight stand, and then nothing changes.
     pub fn push(&mut self, c: Class) -> Result<(), BasesFull>
-        ensures ok { OnOk result ((length self.old < 8) × (self.new ≡ self.old ++ c ∷ [])) }
-        ensures full { OnErr result ((length self.old ≡ 8) × (self.new ≡ self.old)) }
+        ensures ok { OnOk result ((length self.old < most_bases) × (self.new ≡ self.old ++ c ∷ [])) }
+        ensures full { OnErr result ((length self.old ≡ most_bases) × (self.new ≡ self.old)) }
     {
         let at = usize::from(self.len);
         if at == Self::MOST {
@@ -73,7 +74,7 @@ impl Bases {
     /// How many bases there are, at most eight.
     pub fn len(&self) -> usize
         ensures same { result ≡ length self.now }
-        ensures most { result ≤ 8 }
+        ensures most { result ≤ most_bases }
     {
         usize::from(self.len)
     }

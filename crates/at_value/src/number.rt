@@ -1,10 +1,11 @@
 //! Numbers of names, classes, objects and functions, each in its range.
 ghost use Rattle.std.specs.Prelude.{◌≡◌, ◌<◌, ◌≤◌, ℕ, IfSome, IfNone};
 ghost use Rattle.at_value.specs.Numbers as numbers;
+ghost use Rattle.at_value.specs.Widths.{names, classes, objects, functions};
 
 use std::marker::Model;
 
-/// The number of an attribute name or of a text. The first five are the special names that attribute access looks up.
+/// The number of an attribute name or of a text. The first five are the special names, which are looked up on classes.
 #[derive(Clone, Copy, Debug, PartialEq, Eq, PartialOrd, Ord)]
 pub struct Name(u16);
 
@@ -13,7 +14,7 @@ impl Model for Name {
 
     ghost view = { λ n. n.0 };
 
-    ghost invariant = { λ n. n.0 < 4096 };
+    ghost invariant = { λ n. n.0 < names };
 
     ghost inverse = { λ n. record { 0 = n } };
 }
@@ -24,8 +25,8 @@ impl Name {
 
     /// The name with this number, and none from 4,096 on.
     pub fn new(n: u16) -> Option<Self>
-        ensures some { IfSome result (λ name. (name ≡ n) × (n < 4096)) }
-        ensures none { IfNone result (4096 ≤ n) }
+        ensures some { IfSome result (λ name. (name ≡ n) × (n < names)) }
+        ensures none { IfNone result (names ≤ n) }
     {
         if n < Self::COUNT { Some(Name(n)) } else { None }
     }
@@ -33,7 +34,7 @@ impl Name {
     /// The number of the name, from 0 to 4,095.
     pub fn number(self) -> u16
         ensures same { result ≡ self }
-        ensures range { result < 4096 }
+        ensures range { result < names }
     {
         self.0
     }
@@ -83,7 +84,7 @@ impl Model for Class {
 
     ghost view = { λ n. n.0 };
 
-    ghost invariant = { λ n. n.0 < 255 };
+    ghost invariant = { λ n. n.0 < classes };
 
     ghost inverse = { λ n. record { 0 = n } };
 }
@@ -94,8 +95,8 @@ impl Class {
 
     /// The class with this number, and none from 255 on.
     pub fn new(n: u16) -> Option<Self>
-        ensures some { IfSome result (λ class. (class ≡ n) × (n < 255)) }
-        ensures none { IfNone result (255 ≤ n) }
+        ensures some { IfSome result (λ class. (class ≡ n) × (n < classes)) }
+        ensures none { IfNone result (classes ≤ n) }
     {
         if n < Self::COUNT {
             Some(Class(n))
@@ -107,7 +108,7 @@ impl Class {
     /// The number of the class, from 0 to 254.
     pub fn number(self) -> u16
         ensures same { result ≡ self }
-        ensures range { result < 255 }
+        ensures range { result < classes }
     {
         self.0
     }
@@ -129,7 +130,7 @@ impl Model for Obj {
 
     ghost view = { λ n. n.0 };
 
-    ghost invariant = { λ n. n.0 < 4096 };
+    ghost invariant = { λ n. n.0 < objects };
 
     ghost inverse = { λ n. record { 0 = n } };
 }
@@ -140,8 +141,8 @@ impl Obj {
 
     /// The object with this number, and none from 4,096 on.
     pub fn new(n: u16) -> Option<Self>
-        ensures some { IfSome result (λ object. (object ≡ n) × (n < 4096)) }
-        ensures none { IfNone result (4096 ≤ n) }
+        ensures some { IfSome result (λ object. (object ≡ n) × (n < objects)) }
+        ensures none { IfNone result (objects ≤ n) }
     {
         if n < Self::COUNT { Some(Obj(n)) } else { None }
     }
@@ -149,7 +150,7 @@ impl Obj {
     /// The number of the object, from 0 to 4,095.
     pub fn number(self) -> u16
         ensures same { result ≡ self }
-        ensures range { result < 4096 }
+        ensures range { result < objects }
     {
         self.0
     }
@@ -164,7 +165,7 @@ impl Model for Func {
 
     ghost view = { λ n. n.0 };
 
-    ghost invariant = { λ n. n.0 < 1024 };
+    ghost invariant = { λ n. n.0 < functions };
 
     ghost inverse = { λ n. record { 0 = n } };
 }
@@ -175,8 +176,8 @@ impl Func {
 
     /// The function with this number, and none from 1,024 on.
     pub fn new(n: u16) -> Option<Self>
-        ensures some { IfSome result (λ function. (function ≡ n) × (n < 1024)) }
-        ensures none { IfNone result (1024 ≤ n) }
+        ensures some { IfSome result (λ function. (function ≡ n) × (n < functions)) }
+        ensures none { IfNone result (functions ≤ n) }
     {
         if n < Self::COUNT { Some(Func(n)) } else { None }
     }
@@ -184,7 +185,7 @@ impl Func {
     /// The number of the function, from 0 to 1,023.
     pub fn number(self) -> u16
         ensures same { result ≡ self }
-        ensures range { result < 1024 }
+        ensures range { result < functions }
     {
         self.0
     }

@@ -1,9 +1,10 @@
 //! Operations as four words of 64 bits, for tables of words that several threads share.
-ghost use Rattle.std.specs.Prelude.{◌≡◌, ◌<◌, ◌≤◌, ◌^◌, ◌++◌, Some, None, option_map, ◌+◌, ◌↔◌, IfSome, IfNone, OnSome, length, take, drop, min, [], ◌∷◌};
+ghost use Rattle.std.specs.Prelude.{◌≡◌, ◌<◌, ◌≤◌, ◌^◌, ◌++◌, Some, None, option_map, ◌+◌, ◌↔◌, IfSome, IfNone, OnSome, length, map, take, drop, min, [], ◌∷◌};
 ghost use Rattle.at_value.specs.declared.operation.Op as ops;
 ghost use Rattle.at_value.specs.Classes.{AreClasses};
-ghost use Rattle.at_value.specs.Widths.{operation_bits, base_bits, bases_a_word};
-ghost use Rattle.at_value.specs.Packing.{IsClass, IsBases, IsOp, heading, row_word, bases_words, words_of, HasWords};
+ghost use Rattle.at_value.specs.Widths.{most_bases, operation_bits, base_bits, bases_a_word};
+ghost use Rattle.at_value.specs.Fields.{number_of, FitWords};
+ghost use Rattle.at_value.specs.Packing.{IsClass, IsBases, IsOp, heading_fields, row_fields, bases_fields, words_fields, words_of, HasWords};
 ghost use Rattle.at_value.specs.ReadingOps.{classes_in, bases_at, heading_at, op_at};
 
 use crate::bits::{joined, split};
@@ -44,13 +45,13 @@ const CLASS_OF: u64 = 14;
 const MRO: u64 = 15;
 
 // In how many bits each field of word 0 stands, the kind from bit 0 on and each further one above it.
-const KIND_BITS: u32 = 8;
+const OPERATION_BITS: u32 = 8;
 
 const SUBJECT_BITS: u32 = 16;
 
 const SECOND_BITS: u32 = 16;
 
-const NAME_BITS: u32 = 16;
+const ATTRIBUTE_BITS: u32 = 16;
 
 /// In how many bits a base stands.
 const BASE_BITS: u32 = 8;
@@ -70,21 +71,21 @@ struct Heading {
 /// Word 0 with these fields.
 fn heading_word(kind: u64, subject: u16, second: u16, name: u16) -> u64
     requires { kind < 2 ^ operation_bits }
-    ensures { result ≡ heading kind subject second name }
+    ensures { result ≡ number_of (heading_fields kind subject second name) }
 {
     let word = joined(u64::from(name), SECOND_BITS, u64::from(second));
     let word = joined(word, SUBJECT_BITS, u64::from(subject));
-    joined(word, KIND_BITS, kind)
+    joined(word, OPERATION_BITS, kind)
 }
 
 /// The fields of word 0. The bits above them aren't read.
 fn heading_of(word: u64) -> Heading
     ensures { result ≡ heading_at word }
 {
-    let (kind, word) = split(word, KIND_BITS);
+    let (kind, word) = split(word, OPERATION_BITS);
     let (subject, word) = split(word, SUBJECT_BITS);
     let (second, word) = split(word, SECOND_BITS);
-    let (name, _) = split(word, NAME_BITS);
+    let (name, _) = split(word, ATTRIBUTE_BITS);
     Heading {
         kind,
         subject,
@@ -96,7 +97,7 @@ fn heading_of(word: u64) -> Heading
 /// The bases of one word, the first in the lowest bits.
 fn word_of_row(row: &[Class]) -> u64
     requires { length row.now ≤ bases_a_word }
-    ensures word { result ≡ row_word base_bits row.now }
+    ensures word { result ≡ number_of (row_fields base_bits row.now) }
     ensures range { AreClasses row.now }
 {
     let mut word = 0;
@@ -118,8 +119,8 @@ fn row_of(bases: &[Class]) -> (&[Class], &[Class])
 
 /// Bases in three words, so many a word, the first in the lowest bits of the first word.
 fn words_of_bases(bases: &[Class]) -> [u64; 3]
-    requires { length bases.now ≤ 8 }
-    ensures words { result ≡ bases_words bases.now }
+    requires { length bases.now ≤ most_bases }
+    ensures words { result ≡ map number_of (bases_fields bases.now) }
     ensures range { AreClasses bases.now }
 {
     let (first, left) = row_of(bases);
@@ -130,14 +131,14 @@ fn words_of_bases(bases: &[Class]) -> [u64; 3]
 
 /// Puts so many bases from a word behind those that are there. It is none exactly where one of them is no class.
 fn read_row(bases: &mut Bases, count: usize, word: u64) -> Option<()>
-    requires { length bases.old + count ≤ 8 }
+    requires { length bases.old + count ≤ most_bases }
     ensures some { OnSome result (option_map (λ row. bases.old ++ row) (classes_in base_bits count word) ≡ Some bases.new) }
     ensures none { IfNone result (classes_in base_bits count word ≡ None) }
 {
     let mut left = word;
     for _ in 0..count {
         let (base, above) = split(left, BASE_BITS);
-        let _ = bases.push(class_at(base)?);
+        bases.push(class_at(base)?).ok()?;
         left = above;
     }
     Some(())
@@ -188,7 +189,7 @@ pub fn pack(op: &Op) -> [u64; 4]
 /// The words with these fields in word 0, and this word 1.
 fn packed(kind: u64, subject: u16, second: u16, name: u16, first: u64) -> [u64; 4]
     requires { kind < 2 ^ operation_bits }
-    ensures { result ≡ heading kind subject second name ∷ first ∷ 0 ∷ 0 ∷ [] }
+    ensures { result ≡ number_of (heading_fields kind subject second name) ∷ first ∷ 0 ∷ 0 ∷ [] }
 {
     [heading_word(kind, subject, second, name), first, 0, 0]
 }
@@ -196,7 +197,7 @@ fn packed(kind: u64, subject: u16, second: u16, name: u16, first: u64) -> [u64; 
 /// The words of an operation of this kind that gives a class these bases.
 fn packed_bases(kind: u64, c: Class, bases: &Bases) -> [u64; 4]
     requires { kind < 2 ^ operation_bits }
-    ensures words { result ≡ heading kind c (length bases.now) 0 ∷ bases_words bases.now }
+    ensures words { result ≡ number_of (heading_fields kind c (length bases.now) 0) ∷ map number_of (bases_fields bases.now) }
     ensures range { IsClass c × IsBases bases.now }
 {
     let heading = heading_word(kind, c.number(), bases.len() as u16, 0);
@@ -205,7 +206,8 @@ fn packed_bases(kind: u64, c: Class, bases: &Bases) -> [u64; 4]
 }
 
 /// The operation with this heading and these words behind it, whatever the fields have that it doesn't use. It is none
-/// exactly where the kind is none of the fifteen, or a number is out of its range.
+/// exactly where the kind is none of the fifteen, a number is out of its range, there are more than eight bases, or the
+/// word of the value is no value's.
 fn read_op(heading: Heading, words: &[u64; 3]) -> Option<Op>
     ensures { result ≡ op_at heading words.now }
 {
@@ -236,8 +238,8 @@ fn read_op(heading: Heading, words: &[u64; 3]) -> Option<Op>
 }
 
 /// The operation whose words these are, and none exactly where they are the words of no operation: where the kind is
-/// none of the fifteen, a number is out of its range, there are more than eight bases, or a bit is set that the
-/// operation doesn't use.
+/// none of the fifteen, a number is out of its range, there are more than eight bases, the word of the value is no
+/// value's, or a bit is set that the operation doesn't use.
 pub fn unpack(w: [u64; 4]) -> Option<Op>
     ensures same { (op : ops.Op) → (result ≡ Some op) ↔ HasWords op w }
     ensures some { IfSome result (λ op. HasWords op w) }
@@ -247,7 +249,9 @@ pub fn unpack(w: [u64; 4]) -> Option<Op>
     if pack(&op) == w { Some(op) } else { None }
 }
 
-/// What is true of the words of operations: no two operations in range have the same words. It does nothing.
+/// What is true of the words of operations: each number of an operation in range fits into its field, and the fields
+/// into their word; and no two operations in range have the same words. It does nothing.
 pub fn packing_laws()
-    ensures { (o p : ops.Op) → IsOp o → IsOp p → words_of o ≡ words_of p → o ≡ p }
+    ensures fields { (o : ops.Op) → IsOp o → FitWords (words_fields o) }
+    ensures one_each { (o p : ops.Op) → IsOp o → IsOp p → words_of o ≡ words_of p → o ≡ p }
 {}

@@ -105,7 +105,10 @@ pub enum Path {
 /// A reply with its place in the history and the way that the call went.
 #[derive(Drop, Debug)]
 pub struct Answer {
+    /// The place: that of the write itself, or the number of writes that a reading saw.
     pub place: Place,
+    /// What the operation replied.
     pub reply: Reply,
+    /// The way that the call went.
     pub path: Path,
 }

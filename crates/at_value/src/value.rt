@@ -125,16 +125,25 @@ fn part_at(number: u16) -> Option<Func>
     }
 }
 
-/// What a name stands for. `Nothing` is Python's `None`, `Static` a staticmethod and `ClassM` a classmethod.
+/// What a name stands for.
 #[derive(Clone, Copy, Debug, PartialEq, Eq)]
 pub enum Value {
+    /// Python's `None`.
     Nothing,
+    /// An integer.
     Int(i32),
+    /// A text, known by its number among the names and texts of the script.
     Text(Name),
+    /// A function.
     Func(Func),
+    /// A property.
     Prop(Prop),
+    /// A staticmethod of this function.
     Static(Func),
+    /// A classmethod of this function.
     ClassM(Func),
+    /// A class.
     Class(Class),
+    /// An object that is no class.
     Obj(Obj),
 }

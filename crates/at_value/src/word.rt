@@ -4,7 +4,8 @@ ghost use Rattle.at_value.specs.declared.value.Value as values;
 ghost use Rattle.at_value.specs.declared.value.Value.TheVariants as value;
 ghost use Rattle.std.specs.Int.{w32, cast_signed};
 ghost use Rattle.at_value.specs.Widths.{names, objects, classes, functions, kind_bits, integer_bits};
-ghost use Rattle.at_value.specs.Words.{IsValue, word_of, HasWord};
+ghost use Rattle.at_value.specs.Fields.{FitWord};
+ghost use Rattle.at_value.specs.Words.{IsValue, fields_of, word_of, HasWord};
 ghost use Rattle.at_value.specs.Reading.{below, value_at_kind, value_at};
 
 use crate::bits::{joined, split};
@@ -134,8 +135,10 @@ pub fn from_word(w: u64) -> Option<Value>
     read_value(w)
 }
 
-/// What is true of all words: no value's word is 0, and no two values in range have one word. It does nothing.
+/// What is true of all words: each number of a value in range fits into its field, and the fields into the word; no
+/// value's word is 0, and no two values in range have one word. It does nothing.
 pub fn word_laws()
+    ensures fields { (v : values.Value) → IsValue v → FitWord (fields_of v) }
     ensures positive { (v : values.Value) → 0 < word_of v }
     ensures one_each { (u v : values.Value) → IsValue u → IsValue v → word_of u ≡ word_of v → u ≡ v }
 {}
