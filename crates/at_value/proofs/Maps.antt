@@ -5,7 +5,7 @@ use Rattle.std.proofs.lemmas.Bool.Decides.{nat_tests, eqb_tells}
 use Rattle.at_value.specs.Pairs.{value_at, with_value, without, AreAbove, IsRising, MapLaws}
 
 -- what the tests answer where one number is below another, and where the first isn't below
-below_tells : (m n : ℕ) → m < n → (nat_lt m n ≡ true) × ((m == n) ≡ false)
+pub below_tells : (m n : ℕ) → m < n → (nat_lt m n ≡ true) × ((m == n) ≡ false)
 below_tells m n h = (grind (arith, nat_tests), grind (arith, nat_tests))
 
 same_tells : (m n : ℕ) → m ≡ n → (nat_lt m n ≡ false) × ((m == n) ≡ true)

@@ -13,6 +13,7 @@ use Rattle.at_value.specs.Properties.{held-part}
 use Rattle.at_value.specs.Widths.{names, objects, classes, functions, kind_bits, integer_bits, part_bits}
 use Rattle.at_value.specs.Fields.{FitWord}
 use Rattle.at_value.specs.Words.{IsValue, fields_of, word_of, HasWord}
+use Rattle.at_value.proofs.Maps.{below_tells}
 use Rattle.at_value.specs.Reading.{below, parts_at, value_at_kind, value_at}
 
 -- A choice that gave x: a goal from the branch that gave it.
@@ -31,12 +32,9 @@ test_true m n h = grind (arith, nat_tests)
 below_true : (m n : ℕ) → nat_lt m n ≡ true → m < n
 below_true m n h = grind (arith, nat_tests)
 
-below_tells : (m n : ℕ) → m < n → nat_lt m n ≡ true
-below_tells m n h = grind (arith, nat_tests)
-
 -- what is below the bound is given
 pub below_gives : (bound n : ℕ) → n < bound → below bound n ≡ Some n
-below_gives bound n lt = let test = below_tells n bound lt in rw test refl
+below_gives bound n lt = let test = (below_tells n bound lt).0 in rw test refl
 
 -- what was made of a number below the bound
 below_made : {V : Type 0} (make : ℕ → V) (bound n : ℕ) (x : V) → option_map make (below bound n) ≡ Some x → (n < bound) × (make n ≡ x)
@@ -75,7 +73,7 @@ parts_back p h =
     let high = shr_high (held p.del * 2 ^ part_bits + held p.set) part_bits (held p.get) get_small in
     let low' = mod_low (held p.del) part_bits (held p.set) set_small in
     let high' = shr_high (held p.del) part_bits (held p.set) set_small in
-    rw (low, high, low', high', below_tells _ _ g, below_tells _ _ s, below_tells _ _ d, part-held p.get, part-held p.set, part-held p.del) refl
+    rw (low, high, low', high', (below_tells _ _ g).0, (below_tells _ _ s).0, (below_tells _ _ d).0, part-held p.get, part-held p.set, part-held p.del) refl
 
 parts_made : (n : ℕ) (p : Parts) → parts_at n ≡ Some p → (IsPart p.get × IsPart p.set × IsPart p.del) × ((held p.del * 2 ^ part_bits + held p.set) * 2 ^ part_bits + held p.get ≡ n)
 parts_made n p e =

@@ -101,9 +101,7 @@ fn word_of_row(row: &[Class]) -> u64
     ensures range { AreClasses row.now }
 {
     let mut word = 0;
-    let mut i = row.len();
-    while i > 0 {
-        i -= 1;
+    for i in (0..row.len()).rev() {
         word = joined(word, BASE_BITS, u64::from(row[i].number()));
     }
     word

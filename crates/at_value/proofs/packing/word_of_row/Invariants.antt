@@ -7,11 +7,7 @@ use Rattle.at_value.proofs.packing.word_of_row.Given as goal
 -- the bases from i on are in the word
 abbrev pub invariant-loop-i : goal.invariant-loop-i
 invariant-loop-i l = record {
-  within : l.i ≤ length l.row;
   small : l.word < 2 ^ (base_bits * (length l.row - l.i));
   word : l.word ≡ number_of (row_fields base_bits (drop l.i l.row));
   classes : (j : ℕ) → l.i ≤ j → get_or l.row j 0 < classes;
 }
-
-abbrev pub decreases-loop-i : goal.decreases-loop-i
-decreases-loop-i l = l.i
