@@ -1,7 +1,7 @@
 -- How a value that is found on a class is bound: the tables of reading, writing and deleting.
--- After the Python language reference, "Implementing descriptors" and "Invoking descriptors", and the built-in
--- `property`, `staticmethod` and `classmethod`. An object is a descriptor by what its class has: `__get__`, `__set__`
--- and `__delete__` are never looked up in the object's own dictionary.
+-- After the Python language reference, "Implementing Descriptors", "Invoking Descriptors", "Customizing attribute access"
+-- and "Special method lookup", and the built-in `property`, `staticmethod`, `classmethod` and `super`. An object is a
+-- descriptor by what its class has: `__get__`, `__set__` and `__delete__` are never looked up in the object's own dictionary.
 use Rattle.std.specs.Prelude.{ℕ, Bool, true, false, ◌||◌, ◌&&◌, Option, Some, None, is_some, if◌then◌else◌}
 use Rattle.at_value.specs.declared.value.Value as value
 use Rattle.at_value.specs.declared.value.Value.TheVariants as values
@@ -39,8 +39,8 @@ abbrev pub bound_special : Option value.Value → Three → ℕ → ℕ → repl
 bound_special None three o c = replies.NoAttr
 bound_special (Some v) three o c = bound v three o c
 
--- The value of the class comes before the object's own where it is a property, or a data descriptor, which is an object
--- with `__set__` or `__delete__`, that has `__get__`.
+-- The value of the class comes before the object's own where it is a property, or an object that has `__get__` and at
+-- least one of `__set__` and `__delete__`.
 abbrev pub comes_first : Option value.Value → Three → Bool
 comes_first (Some (values.Prop p)) three = true
 comes_first (Some (values.Obj d)) three = is_some three.get && (is_some three.set || is_some three.del)
@@ -71,6 +71,7 @@ bound_to_class (values.ClassM f) three c = replies.Method f (values.Class c)
 bound_to_class (values.Obj d) three c = read_descriptor three.get d values.Nothing c
 bound_to_class v three c = replies.Value v
 
+-- Reading an attribute of class c itself, where t was found along its order.
 abbrev pub bound_class : Option value.Value → Three → ℕ → reply.Reply
 bound_class None three c = replies.NoAttr
 bound_class (Some v) three c = bound_to_class v three c
@@ -89,6 +90,7 @@ write_descriptor (Some s) del d o v = steps.Says (replies.Hook hooks.DescSet s (
 write_descriptor None (Some e) d o v = steps.Says replies.NoSetter
 write_descriptor None None d o v = steps.Own
 
+-- Writing v to an attribute of object o, where the class has t.
 abbrev pub bound_set : Option value.Value → Three → ℕ → value.Value → step.Step
 bound_set (Some (values.Prop p)) three o v = steps.Says (write_property p.set o v)
 bound_set (Some (values.Obj d)) three o v = write_descriptor three.set three.del d o v
@@ -106,6 +108,7 @@ delete_descriptor set (Some e) d o = steps.Says (replies.Hook hooks.DescDel e (v
 delete_descriptor (Some s) None d o = steps.Says replies.NoDeleter
 delete_descriptor None None d o = steps.Own
 
+-- Deleting an attribute of object o, where the class has t.
 abbrev pub bound_del : Option value.Value → Three → ℕ → step.Step
 bound_del (Some (values.Prop p)) three o = steps.Says (delete_property p.del o)
 bound_del (Some (values.Obj d)) three o = delete_descriptor three.set three.del d o

@@ -1,6 +1,6 @@
 //! What a value that is found on a class gives to a reader.
 ghost use Rattle.std.specs.Prelude.{◌≡◌};
-ghost use Rattle.at_desc.specs.Binding.{read_property, read_descriptor, bound, bound_special, comes_first, own_or, or_getattr, bound_get, bound_to_class, bound_class};
+ghost use Rattle.at_desc.specs.Binding.{read_property, read_descriptor, bound, bound_special, comes_first, or_getattr, bound_get, bound_to_class, bound_class};
 
 use crate::descriptor::Three;
 use at_value::{Class, Func, HookKind, Name, Obj, Reply, Value};
@@ -21,7 +21,7 @@ fn property_read(getter: Option<Func>, o: Obj) -> Reply
     }
 }
 
-/// The reply to reading object d, which stands on class c, for the instance.
+/// The reply to reading an attribute for which class c has object d, for the instance: an object of class c, or none.
 fn descriptor_read(get: Option<Value>, d: Obj, instance: Value, c: Class) -> Reply
     ensures { result ≡ read_descriptor get d instance c }
 {
@@ -52,9 +52,10 @@ fn bind(t: Value, three: &Three, o: Obj, c: Class) -> Reply
 }
 
 /// The reply to the look-up of a special method of object o of class c, or of a name behind a class in c's order: what
-/// was found is t, and `three` is what t has as a descriptor. Nothing of the object's own counts.
+/// was found is t, and `three` is what t has as a descriptor. Nothing of the object's own counts, and `__getattr__` isn't
+/// tried. It is `NoAttr` exactly where there is no t, and `NoGetter` exactly where t is a property without a getter.
 ///
-/// After the Python language reference, "Special method lookup", and the built-in `super`.
+/// After the Python language reference, "Special method lookup" and "Invoking Descriptors", and the built-in `super`.
 pub fn bind_special(t: Option<Value>, three: &Three, o: Obj, c: Class) -> Reply
     ensures { result ≡ bound_special t three.now o c }
 {
@@ -72,16 +73,6 @@ fn is_first(t: &Option<Value>, three: &Three) -> bool
         Some(Value::Prop(_)) => true,
         Some(Value::Obj(_)) => three.get.is_some() && (three.set.is_some() || three.del.is_some()),
         _ => false,
-    }
-}
-
-/// The object's own value, else the reply.
-fn own_value_or(own: Option<Value>, otherwise: Reply) -> Reply
-    ensures { result ≡ own_or own otherwise }
-{
-    match own {
-        Some(value) => Reply::Value(value),
-        None => otherwise,
     }
 }
 
@@ -106,10 +97,10 @@ fn hook_or(a: Option<Value>, o: Obj, n: Name, reply: Reply) -> Reply
 
 /// The reply to reading name n of object o of class c: the class has t, `three` is what t has as a descriptor, the
 /// object's dictionary has `own`, and the class has a as `__getattr__`. A property, and an object with `__get__` and one
-/// of `__set__` and `__delete__`, come before the object's own value. It is `NoGetter` or `NoAttr` only where there is no
-/// `__getattr__`.
+/// of `__set__` and `__delete__`, come before the object's own value. Where there is no `__getattr__`, it is `NoGetter`
+/// for a property without a getter, and `NoAttr` where nothing was found.
 ///
-/// After the Python language reference, "Invoking descriptors" and "Customizing attribute access".
+/// After the Python language reference, "Invoking Descriptors" and "Customizing attribute access".
 pub fn bind_get(
     t: Option<Value>,
     three: &Three,
@@ -122,18 +113,17 @@ pub fn bind_get(
     ensures { result ≡ bound_get t three.now own o c n a }
 {
     let first = is_first(&t, three);
-    let of_class = bind_special(t, three, o, c);
-    if first {
-        hook_or(a, o, n, of_class)
-    } else {
-        hook_or(a, o, n, own_value_or(own, of_class))
-    }
+    let reply = match own {
+        Some(value) if !first => Reply::Value(value),
+        _ => bind_special(t, three, o, c),
+    };
+    hook_or(a, o, n, reply)
 }
 
 /// The reply to reading an attribute of class c itself: c has t, and `three` is what t has as a descriptor. A property
 /// gives itself, and the reply is `NoAttr` exactly where there is no t.
 ///
-/// After the Python language reference, "Invoking descriptors", "Class Binding".
+/// After the Python language reference, "Invoking Descriptors".
 pub fn bind_class(t: Option<Value>, three: &Three, c: Class) -> Reply
     ensures { result ≡ bound_class t three.now c }
 {

@@ -44,11 +44,10 @@ fn descriptor() -> Option<Value> {
 
 /// A property with these parts.
 fn property(get: Option<u16>, set: Option<u16>, del: Option<u16>) -> Option<Value> {
-    Some(Value::Prop(Prop::new(
-        Func::new(get.unwrap_or(1024)),
-        Func::new(set.unwrap_or(1024)),
-        Func::new(del.unwrap_or(1024)),
-    )))
+    let get = get.and_then(|number| Func::new(number));
+    let set = set.and_then(|number| Func::new(number));
+    let del = del.and_then(|number| Func::new(number));
+    Some(Value::Prop(Prop::new(get, set, del)))
 }
 
 /// A descriptor's class with those of `__get__` (function 10), `__set__` (11) and `__delete__` (12) that are asked for.
@@ -135,12 +134,19 @@ fn an_instance_is_read(rt: HostRuntime) -> Result<(), Fail> {
         (descriptor(), three(false, true, false), own(), None, OWN),
         (descriptor(), three(false, false, true), own(), hook(), OWN),
         (descriptor(), none(), own(), None, OWN),
-        // the object's own value comes before all else
+        // the object's own value comes before all other values of the class
         (method(), none(), own(), hook(), OWN),
         (static_method(), none(), own(), hook(), OWN),
         (class_method(), none(), own(), None, OWN),
         (Some(Value::Int(8)), none(), own(), None, OWN),
         (None, none(), own(), hook(), OWN),
+        (
+            method(),
+            none(),
+            Some(Value::Nothing),
+            hook(),
+            "Value(Nothing)",
+        ),
         // what the class has
         (
             method(),
@@ -179,6 +185,13 @@ fn an_instance_is_read(rt: HostRuntime) -> Result<(), Fail> {
         ),
         (
             descriptor(),
+            three(false, true, false),
+            None,
+            hook(),
+            "Value(Obj(Obj(3)))",
+        ),
+        (
+            descriptor(),
             three(false, false, true),
             None,
             hook(),
@@ -204,6 +217,13 @@ fn an_instance_is_read(rt: HostRuntime) -> Result<(), Fail> {
         // nothing
         (None, none(), None, None, "NoAttr"),
         (None, none(), None, hook(), GET_ATTR),
+        (
+            None,
+            none(),
+            None,
+            Some(Value::Nothing),
+            "Hook(GetAttr, Nothing, Obj(Obj(7)), Text(Name(6)), Nothing)",
+        ),
     ];
     for (t, three, own, a, wanted) in &rows {
         let reply = bind_get(*t, three, *own, subject(), class(), name(), *a);
@@ -224,6 +244,16 @@ fn a_special_method_is_looked_up(rt: HostRuntime) -> Result<(), Fail> {
         (descriptor(), three(true, true, false), DESC_GET),
         (descriptor(), three(true, false, false), DESC_GET),
         (descriptor(), three(false, true, true), "Value(Obj(Obj(3)))"),
+        (
+            descriptor(),
+            three(false, true, false),
+            "Value(Obj(Obj(3)))",
+        ),
+        (
+            descriptor(),
+            three(false, false, true),
+            "Value(Obj(Obj(3)))",
+        ),
         (descriptor(), none(), "Value(Obj(Obj(3)))"),
         (Some(Value::Int(8)), none(), "Value(Int(8))"),
         (None, none(), "NoAttr"),
@@ -246,7 +276,9 @@ fn a_class_is_read(rt: HostRuntime) -> Result<(), Fail> {
         (descriptor(), three(true, false, false), of_class),
         (descriptor(), three(true, true, true), of_class),
         (descriptor(), three(false, true, true), "Value(Obj(Obj(3)))"),
+        (descriptor(), none(), "Value(Obj(Obj(3)))"),
         (Some(Value::Int(8)), none(), "Value(Int(8))"),
+        (Some(Value::Nothing), none(), "Value(Nothing)"),
         (
             Some(Value::Class(class())),
             none(),
@@ -274,6 +306,9 @@ fn property_in(reply: &Reply) -> Option<Prop> {
 fn a_property_gives_itself_to_its_class(rt: HostRuntime) {
     let reply = bind_class(property(Some(1), None, None), &none(), class());
     let wanted = Some(Prop::new(Func::new(1), None, None));
+    assert_eq!(rt; property_in(&reply), wanted);
+    let reply = bind_class(property(None, Some(1), None), &none(), class());
+    let wanted = Some(Prop::new(None, Func::new(1), None));
     assert_eq!(rt; property_in(&reply), wanted);
 }
 
@@ -319,6 +354,7 @@ fn an_attribute_is_deleted(rt: HostRuntime) -> Result<(), Fail> {
         (descriptor(), none(), "Own"),
         (method(), none(), "Own"),
         (static_method(), none(), "Own"),
+        (class_method(), none(), "Own"),
         (Some(Value::Int(8)), none(), "Own"),
         (None, none(), "Own"),
     ];

@@ -7,7 +7,7 @@ pub record Parts : Type 0 where
   pub set : Option ℕ
   pub del : Option ℕ
 
--- a number holds the part below it, and 0 no part
+-- the part that a number holds: none for 0, and else the function whose number is one less
 abbrev pub part : ℕ → Option ℕ
 part zero = None
 part (suc f) = Some f

@@ -1,7 +1,7 @@
 //! Fields of bits in a word of 64 bits.
 ghost use Rattle.std.specs.Prelude.{◌≡◌, ◌<◌, ◌+◌, ◌-◌, ◌*◌, ◌/◌, ◌%◌, ◌^◌};
 
-/// The word with this number in its lowest bits, so many, and the other above them.
+/// The word with `low` in its lowest `width` bits, and `above` above them.
 pub(crate) fn joined(above: u64, width: u32, low: u64) -> u64
     requires width { width < 64 }
     requires low { low < 2 ^ width }
@@ -11,7 +11,7 @@ pub(crate) fn joined(above: u64, width: u32, low: u64) -> u64
     above << width | low
 }
 
-/// The number in the lowest bits of a word, so many, and the number above them.
+/// The number in the lowest `width` bits of a word, and the number above them.
 pub(crate) fn split(word: u64, width: u32) -> (u64, u64)
     requires { width < 64 }
     ensures low { result.0 ≡ word % 2 ^ width }

@@ -23,7 +23,7 @@ impl Name {
     /// How many names and texts a script may have, the five special names included.
     pub const COUNT: u16 = 4096;
 
-    /// The name with this number, and none from 4,096 on.
+    /// The name with this number, and none exactly from 4,096 on.
     pub fn new(n: u16) -> Option<Self>
         ensures some { IfSome result (λ name. (name ≡ n) × (n < names)) }
         ensures none { IfNone result (names ≤ n) }
@@ -93,7 +93,7 @@ impl Class {
     /// How many classes there may be, `object` included.
     pub const COUNT: u16 = 255;
 
-    /// The class with this number, and none from 255 on.
+    /// The class with this number, and none exactly from 255 on.
     pub fn new(n: u16) -> Option<Self>
         ensures some { IfSome result (λ class. (class ≡ n) × (n < classes)) }
         ensures none { IfNone result (classes ≤ n) }
@@ -139,7 +139,7 @@ impl Obj {
     /// How many objects there may be.
     pub const COUNT: u16 = 4096;
 
-    /// The object with this number, and none from 4,096 on.
+    /// The object with this number, and none exactly from 4,096 on.
     pub fn new(n: u16) -> Option<Self>
         ensures some { IfSome result (λ object. (object ≡ n) × (n < objects)) }
         ensures none { IfNone result (objects ≤ n) }
@@ -174,7 +174,7 @@ impl Func {
     /// How many functions a script may have.
     pub const COUNT: u16 = 1024;
 
-    /// The function with this number, and none from 1,024 on.
+    /// The function with this number, and none exactly from 1,024 on.
     pub fn new(n: u16) -> Option<Self>
         ensures some { IfSome result (λ function. (function ≡ n) × (n < functions)) }
         ensures none { IfNone result (functions ≤ n) }

@@ -3,7 +3,7 @@ use crate::list::Bases;
 use crate::number::{Class, Name, Obj};
 use crate::value::Value;
 
-/// An operation on a world. Those on classes come first, then those on objects; the last six only read.
+/// An operation on a world. Writes of classes come first, then writes of objects; the last six only read.
 #[derive(Clone, Copy, Debug, PartialEq, Eq)]
 pub enum Op {
     /// `class C(B, ..)`: makes a class with these bases.

@@ -159,8 +159,9 @@ fn bases_of(count: u64, words: &[u64; 3]) -> Option<Bases>
     Some(bases)
 }
 
-/// The four words of an operation: its kind, whom it is done to, a second class, object or number of bases, and its
-/// name in word 0; its value in word 1, or its bases in the words behind word 0. What an operation hasn't is 0.
+/// The four words of an operation: its kind, the class or object that it is done to, a second class, object or number of
+/// bases, and its name in word 0; its value in word 1, or its bases in the words behind word 0. What an operation hasn't
+/// is 0. The layout is this project's own, and stands in `docs/DATA_MODEL.md`, "Words".
 pub fn pack(op: &Op) -> [u64; 4]
     ensures words { result ≡ words_of op.now }
     ensures range { IsOp op.now }
@@ -237,7 +238,7 @@ fn read_op(heading: Heading, words: &[u64; 3]) -> Option<Op>
 
 /// The operation whose words these are, and none exactly where they are the words of no operation: where the kind is
 /// none of the fifteen, a number is out of its range, there are more than eight bases, the word of the value is no
-/// value's, or a bit is set that the operation doesn't use.
+/// value's, or a bit is set that the operation doesn't use. The layout is that of `pack`.
 pub fn unpack(w: [u64; 4]) -> Option<Op>
     ensures same { (op : ops.Op) → (result ≡ Some op) ↔ HasWords op w }
     ensures some { IfSome result (λ op. HasWords op w) }

@@ -40,11 +40,13 @@ pub enum Reply {
     Order(ClassList),
     /// Nothing has the name, or an object that the operation names isn't made.
     NoAttr,
-    /// A property without a getter was read.
+    /// The attribute is a property without a getter.
     NoGetter,
-    /// A descriptor that can't be written was written.
+    /// The attribute can't be written: it is a property without a setter, or an object with `__delete__` and without
+    /// `__set__`.
     NoSetter,
-    /// A descriptor that can't be deleted was deleted.
+    /// The attribute can't be deleted: it is a property without a deleter, or an object with `__set__` and without
+    /// `__delete__`.
     NoDeleter,
     /// A class that the operation names isn't made.
     NoClass,

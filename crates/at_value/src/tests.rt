@@ -2,7 +2,7 @@
 mod words;
 
 use crate::{
-    Bases, BasesFull, Class, ClassList, Func, Name, Obj, Op, Pairs, Prop, Sequence, Value,
+    Bases, BasesFull, Class, ClassList, Func, Limits, Name, Obj, Op, Pairs, Prop, Sequence, Value,
 };
 use std::alloc::AllocError;
 use std::mem::size_of;
@@ -123,4 +123,12 @@ fn a_vector_of_pairs_is_a_map_too(rt: HostRuntime) -> Result<(), AllocError> {
     );
     assert_eq!(rt; Pairs::of(pairs).len(), 1);
     Ok(())
+}
+
+#[test]
+fn the_limits_of_the_program_are_the_widest(rt: HostRuntime) {
+    let limits = Limits::program();
+    assert_eq!(rt; limits.place_max, 4_294_967_295);
+    assert_eq!(rt; limits.head_max, 1_099_511_627_774);
+    assert_eq!(rt; limits.tags, 1_023);
 }

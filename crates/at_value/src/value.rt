@@ -125,7 +125,7 @@ fn part_at(number: u16) -> Option<Func>
     }
 }
 
-/// What a name stands for.
+/// A value, as an attribute, a variable or a reply has it.
 #[derive(Clone, Copy, Debug, PartialEq, Eq)]
 pub enum Value {
     /// Python's `None`.

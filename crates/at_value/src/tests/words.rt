@@ -2,8 +2,8 @@
 ghost use Rattle.std.specs.Prelude.{◌<◌};
 
 use crate::{
-    Bases, Class, Func, Limits, Name, Obj, Op, Prop, Value, from_word, pack, packing_laws, to_word,
-    unpack, word_laws,
+    Bases, Class, Func, Name, Obj, Op, Prop, Value, from_word, pack, packing_laws, to_word, unpack,
+    word_laws,
 };
 use std::process::Abort;
 use std::test::Fail;
@@ -111,6 +111,8 @@ fn other_words_are_no_value(rt: HostRuntime) -> Result<(), Fail> {
         // a number that would be in its range without its upper bits
         0x10_0003,
         0x10_0004,
+        0x10_0006,
+        0x10_0007,
         0x10_0008,
         0x10_0009,
     ];
@@ -200,11 +202,13 @@ fn other_words_are_no_operation(rt: HostRuntime) -> Result<(), Fail> {
         [0x0100_0101, 0x0100, 0, 0],
         [0x0100_0101, 0, 1, 0],
         [0x0500_0000_0106, 0x92, 1, 0],
+        [0x0600_0000_070a, 1, 0, 0],
         // a number out of its range
         [0xff05, 0, 0, 0],
         [0x0010_000e, 0, 0, 0],
         [0x0010_0000_0000_070a, 0, 0, 0],
         [0xff00_0108, 0, 0, 0],
+        [0x0600_ff00_070c, 0, 0, 0],
         [0x0010_0000_0109, 0, 0, 0],
         [0x0100_0101, 0xff, 0, 0],
         // no value
@@ -218,12 +222,4 @@ fn other_words_are_no_operation(rt: HostRuntime) -> Result<(), Fail> {
         assert_eq!(rt; unpack(words), None, "{:#x} {:#x}", words[0], words[1]);
     }
     Ok(())
-}
-
-#[test]
-fn the_limits_of_the_program_are_the_widest(rt: HostRuntime) {
-    let limits = Limits::program();
-    assert_eq!(rt; limits.place_max, 4_294_967_295);
-    assert_eq!(rt; limits.head_max, 1_099_511_627_774);
-    assert_eq!(rt; limits.tags, 1_023);
 }
