@@ -16,7 +16,7 @@ use Rattle.at_value.specs.Widths.{classes, most_bases, operation_bits, subject_b
 use Rattle.at_value.specs.Words.{IsValue, word_of}
 use Rattle.at_value.specs.Fields.{number_of, bits_of, AreWithin, FitWord, FitWords}
 use Rattle.at_value.specs.Packing.{IsBases, IsOp, heading_fields, row_fields, rows_fields, bases_fields, words_fields, words_of, HasWords}
-use Rattle.at_value.specs.Reading.{below, value_at}
+use Rattle.at_value.specs.Reading.{below, value_in_word}
 use Rattle.at_value.proofs.Words.{below_gives, word_exact, value_fits}
 use Rattle.at_value.specs.ReadingOps.{with_two, classes_in, classes_of_words, bases_at, heading_at, op_at}
 
@@ -194,7 +194,7 @@ bases_back : (bases : List ℕ) → IsBases bases → bases_at (length bases) (m
 bases_back bases h =
     bases_at_most (length bases) (map number_of (bases_fields bases)) h.0 ∙ rows_back base_bits bases_a_word (omega arith) bases_words bases h.1 (omega (arith, h.0))
 
-value_back : (v : value.Value) → IsValue v → value_at (word_of v) ≡ Some v
+value_back : (v : value.Value) → IsValue v → value_in_word (word_of v) ≡ Some v
 value_back v h = (word_exact (word_of v) v).1 (h, refl)
 
 -- the words behind word 0

@@ -14,7 +14,7 @@ use Rattle.at_value.specs.Widths.{names, objects, classes, functions, kind_bits,
 use Rattle.at_value.specs.Fields.{FitWord}
 use Rattle.at_value.specs.Words.{IsValue, fields_of, word_of, HasWord}
 use Rattle.at_value.proofs.Maps.{below_tells}
-use Rattle.at_value.specs.Reading.{below, parts_at, value_at_kind, value_at}
+use Rattle.at_value.specs.Reading.{below, parts_at, value_at_kind, value_in_word}
 
 -- A choice that gave x: a goal from the branch that gave it.
 chosen : {V P : Type 0} (test : Bool) (this other : Option V) (x : V) → (if test then this else other) ≡ Some x
@@ -176,7 +176,7 @@ pub at_none : {V : Type 0} (P : V → Type 0) (o : Option V) → ((x : V) → (o
 at_none P None same = λ x h. absurd (let got = (same x).1 h in cc)
 at_none P (Some x) same = tt
 
-pub word_exact : (w : ℕ) (v : value.Value) → (value_at w ≡ Some v) ↔ HasWord v w
+pub word_exact : (w : ℕ) (v : value.Value) → (value_in_word w ≡ Some v) ↔ HasWord v w
 word_exact w v =
     (λ e. let read = word_read (w % 2 ^ kind_bits) (w / 2 ^ kind_bits) v e in (read.0, read.1 ∙ div-add-mod' w (2 ^ kind_bits)), λ h. word_back v h.0 w h.1)
 

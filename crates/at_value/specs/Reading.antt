@@ -1,11 +1,25 @@
--- How a word is read: what stands under each kind. Only the functions that read cite it: what they promise of words is said
--- by the words of values and operations.
+-- How a value is put into a word and read from it: what stands under each kind. Only private functions cite it: what the
+-- public ones promise of words is said by the words of values and operations.
 use Rattle.std.specs.Prelude.{ℕ, suc, ◌/◌, ◌%◌, ◌^◌, ◌==◌, nat_lt, ◌&&◌, Option, Some, None, option_map, if◌then◌else◌}
-use Rattle.std.specs.Int.{w32, cast_signed}
+use Rattle.std.specs.Int.{w32, cast_unsigned, cast_signed}
 use Rattle.at_value.specs.declared.value.Value as value
 use Rattle.at_value.specs.declared.value.Value.TheVariants as values
 use Rattle.at_value.specs.Widths.{names, objects, classes, functions, kind_bits, integer_bits, part_bits}
 use Rattle.at_value.specs.Parts.{Parts, part}
+
+-- the bits of an integer, and the number of a text, a function, a class or an object; each is 0 for any other value
+abbrev pub integer_in : value.Value → ℕ
+integer_in (values.Int i) = cast_unsigned w32 i
+integer_in _ = 0
+
+abbrev pub index_in : value.Value → ℕ
+index_in (values.Text n) = n
+index_in (values.Func f) = f
+index_in (values.Static f) = f
+index_in (values.ClassM f) = f
+index_in (values.Class c) = c
+index_in (values.Obj o) = o
+index_in _ = 0
 
 -- the number, where it is below the bound
 abbrev pub below : ℕ → ℕ → Option ℕ
@@ -33,5 +47,5 @@ value_at_kind kind rest =
     else None
 
 -- the value in a word
-abbrev pub value_at : ℕ → Option value.Value
-value_at w = value_at_kind (w % 2 ^ kind_bits) (w / 2 ^ kind_bits)
+abbrev pub value_in_word : ℕ → Option value.Value
+value_in_word w = value_at_kind (w % 2 ^ kind_bits) (w / 2 ^ kind_bits)

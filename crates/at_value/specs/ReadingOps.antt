@@ -1,11 +1,11 @@
--- How the words of an operation are read: what stands under each kind, whatever else the words have. Only the functions that
--- read cite it: what they promise is said by the words of operations.
+-- How the words of an operation are read: what stands under each kind, whatever else the words have. Only private functions
+-- cite it: what the public ones promise is said by the words of operations.
 use Rattle.std.specs.Prelude.{ℕ, zero, suc, ◌/◌, ◌%◌, ◌^◌, ◌-◌, ◌==◌, nat_le, min, List, [], ◌∷◌, ◌++◌, Option, Some, None, option_map, if◌then◌else◌, slice_index}
 use Rattle.at_value.specs.declared.operation.Op as op
 use Rattle.at_value.specs.declared.operation.Op.TheVariants as ops
 use Rattle.at_value.specs.declared.packing.Heading.{Heading}
 use Rattle.at_value.specs.Widths.{names, objects, classes, most_bases, operation_bits, subject_bits, second_bits, attribute_bits, base_bits, bases_a_word}
-use Rattle.at_value.specs.Reading.{below, value_at}
+use Rattle.at_value.specs.Reading.{below, value_in_word}
 
 -- what is made of two parts, and of three, where they are there
 abbrev pub with_two : {A B C : Type 0} → (A → B → C) → Option A → Option B → Option C
@@ -45,11 +45,11 @@ heading_at word = record {
 abbrev pub op_at : Heading → List ℕ → Option op.Op
 op_at h words =
     if h.kind == 1 then with_two ops.NewClass (below classes h.subject) (bases_at h.second words)
-    else if h.kind == 2 then with_three ops.TypeSet (below classes h.subject) (below names h.name) (value_at (slice_index words 0))
+    else if h.kind == 2 then with_three ops.TypeSet (below classes h.subject) (below names h.name) (value_in_word (slice_index words 0))
     else if h.kind == 3 then with_two ops.TypeDel (below classes h.subject) (below names h.name)
     else if h.kind == 4 then with_two ops.SetBases (below classes h.subject) (bases_at h.second words)
     else if h.kind == 5 then option_map ops.New (below classes h.subject)
-    else if h.kind == 6 then with_three ops.Set (below objects h.subject) (below names h.name) (value_at (slice_index words 0))
+    else if h.kind == 6 then with_three ops.Set (below objects h.subject) (below names h.name) (value_in_word (slice_index words 0))
     else if h.kind == 7 then with_two ops.Del (below objects h.subject) (below names h.name)
     else if h.kind == 8 then with_two ops.SetClass (below objects h.subject) (below classes h.second)
     else if h.kind == 9 then with_two ops.Share (below objects h.subject) (below objects h.second)

@@ -1,12 +1,12 @@
 //! Values as words of 64 bits, for tables of words that several threads share.
-ghost use Rattle.std.specs.Prelude.{◌≡◌, ◌<◌, ◌+◌, ◌-◌, ◌*◌, ◌^◌, IfSome, IfNone, ◌↔◌, option_map};
+ghost use Rattle.std.specs.Prelude.{◌≡◌, ◌<◌, ◌+◌, ◌-◌, ◌*◌, ◌/◌, ◌%◌, ◌^◌, ◌≤◌, ◌≢◌, IfSome, IfNone, ◌↔◌, option_map};
 ghost use Rattle.at_value.specs.declared.value.Value as values;
 ghost use Rattle.at_value.specs.declared.value.Value.TheVariants as value;
 ghost use Rattle.std.specs.Int.{w32, cast_signed};
 ghost use Rattle.at_value.specs.Widths.{names, objects, classes, functions, kind_bits, integer_bits};
 ghost use Rattle.at_value.specs.Fields.{FitWord};
 ghost use Rattle.at_value.specs.Words.{IsValue, fields_of, word_of, HasWord};
-ghost use Rattle.at_value.specs.Reading.{below, value_at_kind, value_at};
+ghost use Rattle.at_value.specs.Reading.{integer_in, index_in, below, value_at_kind, value_in_word};
 
 use crate::bits::{joined, split};
 use crate::number::{Class, Func, Name, Obj};
@@ -34,13 +34,58 @@ const CLASS: u64 = 8;
 
 const OBJ: u64 = 9;
 
-/// The word with this kind, and above it the rest.
-fn kinded(kind: u64, rest: u64) -> u64
-    requires kind { kind < 2 ^ kind_bits }
-    requires rest { rest < 2 ^ (64 - kind_bits) }
-    ensures { result ≡ rest * 2 ^ kind_bits + kind }
+/// The kind of a value.
+fn kind_of(v: &Value) -> u64
+    ensures same { result ≡ word_of v.now % 2 ^ kind_bits }
+    ensures positive { 0 < result }
 {
-    joined(rest, KIND_BITS, kind)
+    match v {
+        Value::Nothing => NOTHING,
+        Value::Int(_) => INT,
+        Value::Text(_) => TEXT,
+        Value::Func(_) => FUNC,
+        Value::Prop(_) => PROP,
+        Value::Static(_) => STATIC,
+        Value::ClassM(_) => CLASS_METHOD,
+        Value::Class(_) => CLASS,
+        Value::Obj(_) => OBJ,
+    }
+}
+
+/// The bits of an integer in two's complement, and 0 for any other value.
+fn integer_of(v: Value) -> u32
+    ensures { result ≡ integer_in v }
+{
+    match v {
+        Value::Int(i) => i.cast_unsigned(),
+        _ => 0,
+    }
+}
+
+/// The number of a text, a function, a class or an object, and 0 for any other value.
+fn index_of(v: Value) -> u16
+    ensures { result ≡ index_in v }
+{
+    match v {
+        Value::Text(n) => n.number(),
+        Value::Func(f) | Value::Static(f) | Value::ClassM(f) => f.number(),
+        Value::Class(c) => c.number(),
+        Value::Obj(o) => o.number(),
+        _ => 0,
+    }
+}
+
+/// The number above the kind in the word of a value. Like numbers are taken together, so that the built code needs no
+/// table of the kinds.
+fn number_of(v: Value) -> u64
+    ensures same { result ≡ word_of v / 2 ^ kind_bits }
+    ensures range { IsValue v }
+{
+    match v {
+        Value::Prop(p) => p.number(),
+        Value::Nothing | Value::Int(_) => u64::from(integer_of(v)),
+        _ => u64::from(index_of(v)),
+    }
 }
 
 /// The word of a value, which is never 0. The lowest bits are its kind and those above them its numbers; the
@@ -50,17 +95,8 @@ pub fn to_word(v: Value) -> u64
     ensures positive { 0 < result }
     ensures range { IsValue v }
 {
-    match v {
-        Value::Nothing => NOTHING,
-        Value::Int(i) => kinded(INT, u64::from(i.cast_unsigned())),
-        Value::Text(n) => kinded(TEXT, u64::from(n.number())),
-        Value::Func(f) => kinded(FUNC, u64::from(f.number())),
-        Value::Prop(p) => kinded(PROP, p.number()),
-        Value::Static(f) => kinded(STATIC, u64::from(f.number())),
-        Value::ClassM(f) => kinded(CLASS_METHOD, u64::from(f.number())),
-        Value::Class(c) => kinded(CLASS, u64::from(c.number())),
-        Value::Obj(o) => kinded(OBJ, u64::from(o.number())),
-    }
+    let kind = kind_of(&v);
+    joined(number_of(v), KIND_BITS, kind)
 }
 
 /// The name with this number, and none exactly from 4,096 on.
@@ -99,27 +135,63 @@ fn int_at(n: u64) -> Option<Value>
     Some(Value::Int(bits.cast_signed()))
 }
 
-/// The value of this kind with this number above the kind, and none exactly where there is no such value.
-fn value_of_kind(kind: u64, rest: u64) -> Option<Value>
+/// The value of one of the kinds up to that of texts.
+fn plain_value(kind: u64, rest: u64) -> Option<Value>
+    requires first { 1 ≤ kind }
+    requires last { kind ≤ 3 }
     ensures { result ≡ value_at_kind kind rest }
 {
     match kind {
         NOTHING if rest == 0 => Some(Value::Nothing),
         INT => int_at(rest),
         TEXT => Some(Value::Text(name_at(rest)?)),
+        _ => None,
+    }
+}
+
+/// The value of one of the kinds that have a function.
+fn function_value(kind: u64, rest: u64) -> Option<Value>
+    requires first { 4 ≤ kind }
+    requires last { kind ≤ 7 }
+    requires one { kind ≢ 5 }
+    ensures { result ≡ value_at_kind kind rest }
+{
+    match kind {
         FUNC => Some(Value::Func(func_at(rest)?)),
-        PROP => Some(Value::Prop(Prop::of_number(rest)?)),
         STATIC => Some(Value::Static(func_at(rest)?)),
-        CLASS_METHOD => Some(Value::ClassM(func_at(rest)?)),
+        _ => Some(Value::ClassM(func_at(rest)?)),
+    }
+}
+
+/// The value of the kind of classes, or of objects.
+fn instance_value(kind: u64, rest: u64) -> Option<Value>
+    requires first { 8 ≤ kind }
+    requires last { kind ≤ 9 }
+    ensures { result ≡ value_at_kind kind rest }
+{
+    match kind {
         CLASS => Some(Value::Class(class_at(rest)?)),
-        OBJ => Some(Value::Obj(object_at(rest)?)),
+        _ => Some(Value::Obj(object_at(rest)?)),
+    }
+}
+
+/// The value of this kind with this number above the kind, and none exactly where there is no such value. The kinds are told
+/// apart a few at a time, so that the built code needs no table of them.
+fn value_of_kind(kind: u64, rest: u64) -> Option<Value>
+    ensures { result ≡ value_at_kind kind rest }
+{
+    match kind {
+        NOTHING..=TEXT => plain_value(kind, rest),
+        PROP => Some(Value::Prop(Prop::of_number(rest)?)),
+        FUNC..=CLASS_METHOD => function_value(kind, rest),
+        CLASS..=OBJ => instance_value(kind, rest),
         _ => None,
     }
 }
 
 /// The value in a word, and none exactly where there is none.
 pub(crate) fn read_value(w: u64) -> Option<Value>
-    ensures { result ≡ value_at w }
+    ensures { result ≡ value_in_word w }
 {
     let (kind, rest) = split(w, KIND_BITS);
     value_of_kind(kind, rest)
