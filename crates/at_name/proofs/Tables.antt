@@ -9,6 +9,7 @@ use Rattle.std.proofs.lemmas.Option.{some_pair_parts, none-some}
 use Rattle.std.proofs.lemmas.Bool.{cases_Bool, le-ltb, lt-ltb, ltb-true, ltb-false}
 use Rattle.std.proofs.lemmas.Bool.Decides.{nat_tests}
 use Rattle.std.proofs.lemmas.Map.Keys.{IsDistinct-push}
+use Rattle.at_value.specs.Widths as widths
 use Rattle.at_name.specs.Texts.{AreDistinct, AreNames, place_of, found_or_added, interned, special_texts}
 
 -- a test of the texts of some items is a test of the items
@@ -132,10 +133,10 @@ place_of-interned most text texts new place e =
     interned_cases most text texts new place (λ n l. place_of text l ≡ Some n) e (λ n is. is) (λ absent room. place_of-push text texts absent)
 
 -- a table of names stays one
-AreNames-interned : (text : List ℕ) (texts new : List (List ℕ)) (place : ℕ) → AreNames texts → interned 4096 text texts ≡ Some (place, new) → AreNames new
+AreNames-interned : (text : List ℕ) (texts new : List (List ℕ)) (place : ℕ) → AreNames texts → interned widths.names text texts ≡ Some (place, new) → AreNames new
 AreNames-interned text texts new place h e =
-    interned_cases 4096 text texts new place (λ n l. AreNames l) e (λ n is. h) (λ absent room.
-    let all = AreDistinct-push 4096 text texts (record { distinct = h.distinct; bounded = h.most }) absent room in
+    interned_cases widths.names text texts new place (λ n l. AreNames l) e (λ n is. h) (λ absent room.
+    let all = AreDistinct-push widths.names text texts (record { distinct = h.distinct; bounded = h.most }) absent room in
     record {
       special = let five : 5 ≤ length texts = omega (arith, ap length h.special, length-take 5 texts) in take-append-le 5 texts (text ∷ []) five ∙ h.special;
       distinct = all.distinct;
@@ -143,7 +144,7 @@ AreNames-interned text texts new place h e =
     })
 
 -- also where no place was given
-pub AreNames-kept : (text : List ℕ) (texts new : List (List ℕ)) (r : Option ℕ) → AreNames texts → interned 4096 text texts ≡ option_map (λ n. (n, new)) r → (r ≡ None → new ≡ texts) → AreNames new
+pub AreNames-kept : (text : List ℕ) (texts new : List (List ℕ)) (r : Option ℕ) → AreNames texts → interned widths.names text texts ≡ option_map (λ n. (n, new)) r → (r ≡ None → new ≡ texts) → AreNames new
 AreNames-kept text texts new None h e kept = rw (kept refl) h
 AreNames-kept text texts new (Some n) h e kept = AreNames-interned text texts new n h e
 
@@ -170,6 +171,6 @@ full_exactly most text texts new (Some n) h e = (
 )
 
 -- the name of a number that is in range
-pub name_in_range : (r : Option ℕ) (place : ℕ) → IfSome r (λ name. (name ≡ place) × (place < 4096)) → IfNone r (4096 ≤ place) → place < 4096 → r ≡ Some place
+pub name_in_range : (r : Option ℕ) (place : ℕ) → IfSome r (λ name. (name ≡ place) × (place < widths.names)) → IfNone r (widths.names ≤ place) → place < widths.names → r ≡ Some place
 name_in_range None place some none lt = absurd (omega arith)
 name_in_range (Some name) place some none lt = ap Some some.0

@@ -1,6 +1,7 @@
 -- Lists of distinct texts, in which a text is known by its place.
 use Rattle.std.specs.Prelude.{ℕ, ◌≡◌, ◌≤◌, nat_lt, List, [], ◌∷◌, ◌++◌, length, take, Option, Some, None, position, bytes_eq, codes, if◌then◌else◌, option_and_then}
 use Rattle.std.specs.List.{IsDistinct}
+use Rattle.at_value.specs.Widths as widths
 
 -- where the text stands
 abbrev pub place_of : List ℕ → List (List ℕ) → Option ℕ
@@ -35,4 +36,4 @@ special_texts = codes "__get__" ∷ codes "__set__" ∷ codes "__delete__" ∷ c
 pub record AreNames (texts : List (List ℕ)) : Type 0 where
   pub special : take 5 texts ≡ special_texts
   pub distinct : IsDistinct bytes_eq texts
-  pub most : length texts ≤ 4096
+  pub most : length texts ≤ widths.names

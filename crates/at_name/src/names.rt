@@ -1,6 +1,7 @@
 //! The table of names. Contracts see it as the list of the texts, each as its bytes.
 ghost use Rattle.std.specs.Prelude.{◌≡◌, ◌↔◌, length, None, Some, IfOk, OnErr, slice_get};
 ghost use Rattle.std.specs.Option.{option_copied};
+ghost use Rattle.at_value.specs.Widths as widths;
 ghost use Rattle.at_name.specs.Texts.{AreNames, place_of, interned, special_texts};
 
 use crate::fault::NameFault;
@@ -10,7 +11,7 @@ use std::alloc::{AllocError, Global};
 use std::marker::Model;
 
 /// How many names there are at most.
-const NAMES_MOST: usize = 4096;
+const NAMES_MOST: usize = Name::COUNT as usize;
 
 /// Distinct texts, each known by its place; the special names stand first. Contracts see the list of the texts.
 #[derive(Drop)]
@@ -70,9 +71,9 @@ impl Names {
     /// and takes no memory. It answers `TooMany` exactly where the text isn't there and there are 4,096 texts, and
     /// `NoMemory` for want of memory; then nothing changes.
     pub fn intern(&mut self, text: &str) -> Result<Name, NameFault>
-        ensures ok { IfOk result (λ n. interned 4096 text.now self.old ≡ Some (n, self.new)) }
+        ensures ok { IfOk result (λ n. interned widths.names text.now self.old ≡ Some (n, self.new)) }
         ensures number { IfOk result (λ n. place_of text.now self.new ≡ Some n) }
-        ensures too_many { (result ≡ Err NameFault.TooMany) ↔ ((place_of text.now self.old ≡ None) × (length self.old ≡ 4096)) }
+        ensures too_many { (result ≡ Err NameFault.TooMany) ↔ ((place_of text.now self.old ≡ None) × (length self.old ≡ widths.names)) }
         ensures absent { OnErr result (place_of text.now self.old ≡ None) }
         ensures err { OnErr result (self.new ≡ self.old) }
     {

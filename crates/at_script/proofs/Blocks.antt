@@ -4,6 +4,7 @@ use Rattle.std.proofs.lemmas.List.{length-append}
 use Rattle.std.specs.Option.{option_map}
 use Rattle.std.proofs.lemmas.Bool.{ltb-true, ltb-false, lt-leb, le-leb}
 use Rattle.std.proofs.lemmas.Slice.Eq.{bytes_eq-Decides}
+use Rattle.at_value.specs.Widths as widths
 use Rattle.at_script.specs.declared.tables.Tables.{Tables}
 use Rattle.at_script.specs.declared.stmt.Stmt.{Stmt}
 use Rattle.at_script.specs.Literals.{◌>>=◌}
@@ -83,11 +84,11 @@ nothing_before (Some read) = refl
 
 -- The script of the lines is made of the texts with the classes and the functions, and of the statements that are read
 -- line by line.
-pub script_is : (lines main : List (List ℕ)) (t u : Tables) (classes : List (List ℕ)) → behind_funcs false lines ≡ Some main → t ≡ opening → all_interned 255 t.classes (declared_in lines) ≡ Some classes
+pub script_is : (lines main : List (List ℕ)) (t u : Tables) (classes : List (List ℕ)) → behind_funcs false lines ≡ Some main → t ≡ opening → all_interned widths.classes t.classes (declared_in lines) ≡ Some classes
     → with_funcs (record t { classes = classes }) (funcs_in lines) ≡ Some u → script_of_lines lines ≡ (main_of u [] main >>= script_read)
 script_is lines main t u classes behind is_opening declared functions =
     ap (λ o. o >>= (λ m. with_classes lines >>= (λ v. with_funcs v (funcs_in lines) >>= (λ w. block_read w m >>= script_read)))) behind
-    ∙ ap (λ o. option_map (λ c. with_classes_of opening c) o >>= (λ v. with_funcs v (funcs_in lines) >>= (λ w. block_read w main >>= script_read))) (ap (λ (v : Tables). all_interned 255 v.classes (declared_in lines)) (sym is_opening) ∙ declared)
+    ∙ ap (λ o. option_map (λ c. with_classes_of opening c) o >>= (λ v. with_funcs v (funcs_in lines) >>= (λ w. block_read w main >>= script_read))) (ap (λ (v : Tables). all_interned widths.classes v.classes (declared_in lines)) (sym is_opening) ∙ declared)
     ∙ ap (λ o. o >>= (λ w. block_read w main >>= script_read)) (ap (λ v. with_funcs (with_classes_of v classes) (funcs_in lines)) (sym is_opening) ∙ functions)
     ∙ ap (λ o. o >>= script_read) (sym (nothing_before (block_read u main)))
     ∙ ap (λ o. o >>= script_read) (sym (main_is u [] main))

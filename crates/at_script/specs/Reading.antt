@@ -1,6 +1,7 @@
 -- How the reader comes to the statements of a block: line by line. `Script` says what they are.
 use Rattle.std.specs.Prelude.{ℕ, List, [], ◌∷◌, ◌++◌, Option, Some, None, if◌then◌else◌, codes}
 use Rattle.std.specs.Option.{option_map}
+use Rattle.at_value.specs.Widths as widths
 use Rattle.at_script.specs.declared.tables.Tables.{Tables}
 use Rattle.at_script.specs.declared.stmt.Stmt.{Stmt}
 use Rattle.at_name.specs.Texts.{interned}
@@ -12,7 +13,7 @@ use Rattle.at_script.specs.Script.{words_of, has_only}
 -- the classes with that of a line, where it declares one
 abbrev pub with_declared : List (List ℕ) → Option (List ℕ) → Option (List (List ℕ))
 with_declared classes None = Some classes
-with_declared classes (Some class) = option_map (λ found. found.1) (interned 255 class classes)
+with_declared classes (Some class) = option_map (λ found. found.1) (interned widths.classes class classes)
 
 -- the statement of a line, and the texts with its own
 abbrev pub stated : Tables → List ℕ → Option (Stmt × Tables)

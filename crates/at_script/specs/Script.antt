@@ -12,6 +12,7 @@
 use Rattle.std.specs.Prelude.{ℕ, ◌==◌, ◌-◌, nat_eq, nat_le, Bool, true, false, is_some, ◌&&◌, ◌||◌, List, [], ◌∷◌, length, take, Option, Some, None, if◌then◌else◌, codes, bytes_eq}
 use Rattle.std.specs.Option.{option_map}
 use Rattle.std.specs.List.{slice_split, ends_with, filter, filter_map, list_all}
+use Rattle.at_value.specs.Widths as widths
 use Rattle.at_script.specs.declared.tables.Tables.{Tables}
 use Rattle.at_script.specs.declared.stmt.Stmt.{Stmt}
 use Rattle.at_script.specs.Parts.{Parts, script_with}
@@ -104,17 +105,17 @@ all_say (line ∷ lines) = do
 abbrev pub declared_in : List (List ℕ) → List (List ℕ)
 declared_in lines = filter_map (λ line. declared_by (words_of line)) lines
 
--- The texts with `object` and then the classes that the lines declare, each at its first declaration. There are at most
--- 255.
+-- The texts with `object` and then the classes that the lines declare, each at its first declaration, where they aren't
+-- more than there may be.
 abbrev pub with_classes : List (List ℕ) → Option Tables
-with_classes lines = option_map (λ classes. record opening { classes = classes }) (all_interned 255 opening.classes (declared_in lines))
+with_classes lines = option_map (λ classes. record opening { classes = classes }) (all_interned widths.classes opening.classes (declared_in lines))
 
--- the texts with one more function, which no class and no other function is called as; there are at most 1,024
+-- the texts with one more function, which no class and no other function is called as
 abbrev pub with_func : Tables → List ℕ → Option Tables
 with_func t text =
     if is_some (place_of text t.classes) || is_some (func_at t text)
     then None
-    else option_map (λ found. record t { funcs = found.1 }) (interned 1024 text t.funcs)
+    else option_map (λ found. record t { funcs = found.1 }) (interned widths.functions text t.funcs)
 
 abbrev pub with_funcs : Tables → List (List ℕ) → Option Tables
 with_funcs t [] = Some t

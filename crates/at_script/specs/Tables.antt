@@ -10,6 +10,7 @@ use Rattle.at_script.specs.declared.stmt.Operand as operand
 use Rattle.at_script.specs.declared.stmt.Operand.TheVariants as operands
 use Rattle.at_value.specs.declared.value.Value as value
 use Rattle.at_value.specs.declared.value.Value.TheVariants as values
+use Rattle.at_value.specs.Widths as widths
 use Rattle.at_script.specs.Words.{class_word_of}
 use Rattle.at_name.specs.Texts.{place_of, interned, special_texts}
 use Rattle.at_script.specs.Literals.{◌>>=◌, Written, nothing, integer, quoted, named, static, classm, prop}
@@ -51,16 +52,20 @@ bases_at t words = if nat_le (length words) 8 then option_map or_object (classes
 abbrev pub func_at : Tables → List ℕ → Option ℕ
 func_at t text = place_of text t.funcs
 
--- the number of a variable, of which there are at most 1,024 and none is called as a class or a function is
+-- how many variables there may be
+abbrev pub most_variables : ℕ
+most_variables = 1024
+
+-- the number of a variable, which isn't called as a class or a function is
 abbrev pub variable_in : Tables → List ℕ → Option (ℕ × Tables)
 variable_in t text =
     if is_some (place_of text t.classes) || is_some (func_at t text)
     then None
-    else option_map (λ found. (found.0, record t { vars = found.1 })) (interned 1024 text t.vars)
+    else option_map (λ found. (found.0, record t { vars = found.1 })) (interned most_variables text t.vars)
 
--- the number of the name of an attribute or of a text, of which there are at most 4,096
+-- the number of the name of an attribute or of a text
 abbrev pub name_in : Tables → List ℕ → Option (ℕ × Tables)
-name_in t text = option_map (λ found. (found.0, record t { names = found.1 })) (interned 4096 text t.names)
+name_in t text = option_map (λ found. (found.0, record t { names = found.1 })) (interned widths.names text t.names)
 
 -- what a statement works on: a class that has the text for a name, or else a variable
 abbrev pub class_or_variable : Tables → List ℕ → Option ℕ → Option (target.Target × Tables)

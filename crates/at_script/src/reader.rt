@@ -2,6 +2,7 @@
 ghost use Rattle.std.specs.Prelude.{◌≡◌, [], false, Some, None, IfOk, IfErr, if◌then◌else◌};
 ghost use Rattle.std.specs.List.{list_all};
 ghost use Rattle.std.specs.Option.{option_map, option_copied};
+ghost use Rattle.at_value.specs.Widths as widths;
 ghost use Rattle.at_script.specs.Pieces.{pieces_left};
 ghost use Rattle.at_script.specs.Shapes.{declared_by};
 ghost use Rattle.at_script.specs.Faults.{IsFaultAt};
@@ -173,7 +174,7 @@ fn script_of_lines(alloc: Global, lines: Pieces<'_>) -> Result<Option<Script>, A
 
 /// Adds the classes that the lines declare. It answers `false` where there are more than there may be.
 fn declare_classes(classes: &mut Texts<CLASSES_MOST>, lines: Pieces<'_>) -> Result<bool, AllocError>
-    ensures { IfOk result (λ fit. all_interned 255 classes.old (declared_in (pieces_left lines.entry)) ≡ (if fit then Some classes.new else None)) }
+    ensures { IfOk result (λ fit. all_interned widths.classes classes.old (declared_in (pieces_left lines.entry)) ≡ (if fit then Some classes.new else None)) }
 {
     for line in lines {
         if !declare(classes, line)? {

@@ -1,7 +1,9 @@
 //! Scripts. Contracts see each as the record of its parts.
 ghost use Rattle.std.specs.Prelude.{◌≡◌, ◌≤◌, length, slice_get};
 ghost use Rattle.std.specs.Option.{option_copied};
+ghost use Rattle.at_value.specs.Widths as widths;
 ghost use Rattle.at_script.specs.Parts.{script_with, block_of};
+ghost use Rattle.at_script.specs.Tables.{most_variables};
 
 use crate::stmt::{Block, Stmt};
 use crate::tables::Tables;
@@ -110,7 +112,7 @@ impl Script {
     /// How many attribute names and texts there are, the five special names included.
     pub fn names(&self) -> usize
         ensures same { result ≡ length self.now.names }
-        ensures most { result ≤ 4096 }
+        ensures most { result ≤ widths.names }
     {
         usize::from(self.tables.names.len())
     }
@@ -118,7 +120,7 @@ impl Script {
     /// How many classes there are, `object` included.
     pub fn classes(&self) -> usize
         ensures same { result ≡ length self.now.classes }
-        ensures most { result ≤ 255 }
+        ensures most { result ≤ widths.classes }
     {
         self.tables.classes.len()
     }
@@ -126,7 +128,7 @@ impl Script {
     /// How many functions there are.
     pub fn funcs(&self) -> usize
         ensures same { result ≡ length self.now.funcs }
-        ensures most { result ≤ 1024 }
+        ensures most { result ≤ widths.functions }
     {
         self.tables.funcs.len()
     }
@@ -134,7 +136,7 @@ impl Script {
     /// How many variables there are.
     pub fn vars(&self) -> usize
         ensures same { result ≡ length self.now.vars }
-        ensures most { result ≤ 1024 }
+        ensures most { result ≤ most_variables }
     {
         self.tables.vars.len()
     }

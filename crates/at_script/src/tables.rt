@@ -1,6 +1,7 @@
 //! The texts of a script, and statements over their numbers.
 ghost use Rattle.std.specs.Prelude.{◌≡◌, ◌<◌, ◌||◌, is_some, IfOk, None, Some, if◌then◌else◌};
 ghost use Rattle.std.specs.Option.{option_map, option_copied};
+ghost use Rattle.at_value.specs.Widths as widths;
 ghost use Rattle.at_name.specs.Texts.{place_of};
 ghost use Rattle.at_script.specs.Literals.{written, quoted, named, static, classm, prop};
 ghost use Rattle.at_script.specs.Pieces.{pieces_left};
@@ -18,10 +19,10 @@ use at_value::{Bases, Class, Func, Name, Prop, Value};
 use std::alloc::{AllocError, Global};
 
 /// How many classes there may be, `object` included.
-pub const CLASSES_MOST: usize = 255;
+pub const CLASSES_MOST: usize = Class::COUNT as usize;
 
 /// How many functions there may be.
-pub const FUNCS_MOST: usize = 1024;
+pub const FUNCS_MOST: usize = Func::COUNT as usize;
 
 /// How many variables there may be.
 pub const VARS_MOST: usize = 1024;
@@ -406,7 +407,7 @@ impl Tables {
 
 /// A class as what a statement works on.
 fn target_class(place: usize) -> Option<Target>
-    requires { place < 255 }
+    requires { place < widths.classes }
     ensures { result ≡ Some (Target.Class place) }
 {
     Some(Target::Class(Class::new(place as u16)?))
@@ -414,7 +415,7 @@ fn target_class(place: usize) -> Option<Target>
 
 /// A class as a value.
 fn class_value(place: usize) -> Option<Operand>
-    requires { place < 255 }
+    requires { place < widths.classes }
     ensures { result ≡ Some (Operand.Value (Value.Class place)) }
 {
     Some(Operand::Value(Value::Class(Class::new(place as u16)?)))

@@ -14,6 +14,7 @@ use Rattle.std.proofs.lemmas.List.Sorted.{sum_by-IsPermutation}
 use Rattle.std.proofs.lemmas.List.Elements.{All-contains}
 use Rattle.at_value.specs.declared.value.Value.{Value}
 use Rattle.at_value.specs.Pairs.{AreAbove, IsRising}
+use Rattle.at_value.specs.Widths as widths
 use Rattle.at_script.specs.Parts.{Parts}
 use Rattle.at_text.specs.Values.{text_at}
 use Rattle.at_text.specs.Last.{with_pair, by_bytes}
@@ -141,10 +142,10 @@ module _ (s : Parts) where
       orderly_with pair (by_bytes s l) (λ y within. above_in pair.0 l rising.0 y (in_by_bytes y l within)) (orderly_by_bytes l rising.1)
 
   -- the same pairs by rising keys are those sorted by bytes
-  pub by_bytes_from_keys : (keys : List ℕ) (own sorted : List (ℕ × Value)) → AreKeys s.names keys → IsRising own → All (λ p. p.0 < 4096) own → IsPermutation own sorted → IsNonDecreasingBy (λ p. key_at keys p.0) sorted → sorted ≡ by_bytes s own
+  pub by_bytes_from_keys : (keys : List ℕ) (own sorted : List (ℕ × Value)) → AreKeys s.names keys → IsRising own → All (λ p. p.0 < widths.names) own → IsPermutation own sorted → IsNonDecreasingBy (λ p. key_at keys p.0) sorted → sorted ≡ by_bytes s own
   by_bytes_from_keys keys own sorted are rising small same up =
       let in_own : (x : ℕ × Value) → In x sorted → In x own = λ x within. In-permutation own sorted x same within in
-      let low : (x : ℕ × Value) → In x sorted → x.0 < 4096 = λ x within. All-contains (λ (p : ℕ × Value). p.0 < 4096) own x small (contains_from_in x own (in_own x within)) in
+      let low : (x : ℕ × Value) → In x sorted → x.0 < widths.names = λ x within. All-contains (λ (p : ℕ × Value). p.0 < widths.names) own x small (contains_from_in x own (in_own x within)) in
       let key : ℕ × Value → ℕ = λ p. key_at keys p.0 in
       orderly_unique (IsUpto s.names) (IsUpto-itself s.names) (IsUpto-antisymmetric s.names) sorted (by_bytes s own)
       (λ f. sum_by_bytes f own ∙ sym (sum_by-IsPermutation f own sorted same))

@@ -16,6 +16,7 @@ use Rattle.std.proofs.lemmas.Bool.{cases_lt}
 use Rattle.std.proofs.lemmas.Option.{unwrap_or-slice_get, slice_get_past, slice_get_within, get_or_from_slice_get}
 use Rattle.at_value.specs.declared.value.Value.{Value}
 use Rattle.at_value.specs.Pairs.{AreAbove, IsRising}
+use Rattle.at_value.specs.Widths as widths
 use Rattle.at_text.specs.Values.{text_at}
 use Rattle.at_text.specs.Order.{name_cmp, IsUpto, key_at, keyed, pair_of, AreKeys, AreGiven}
 use Rattle.at_text.proofs.ByBytes.{name_cmp_total}
@@ -54,7 +55,7 @@ zero_at (suc n) (suc m) = zero_at n m
 -- no key is given at first
 pub given_none : (sorted : List ℕ) (n : ℕ) → AreGiven 0 sorted (replicate n 0)
 given_none sorted n =
-    let none : (m : ℕ) → 4096 ≤ slice_index (replicate n 0) m → ⊥ = λ m high. omega (arith, zero_at n m) in
+    let none : (m : ℕ) → widths.names ≤ slice_index (replicate n 0) m → ⊥ = λ m high. omega (arith, zero_at n m) in
     record {
       all = λ k below. absurd (omega arith);
       within = λ m high. absurd (none m high);
@@ -70,7 +71,7 @@ after_write keys n key m within =
     ]
 
 -- one more key is given
-pub given_more : (sorted keys : List ℕ) (i n key : ℕ) → n < length keys → n ≡ slice_index sorted i → key ≡ 4096 + i → AreGiven i sorted keys → AreGiven (i + 1) sorted (set keys n key)
+pub given_more : (sorted keys : List ℕ) (i n key : ℕ) → n < length keys → n ≡ slice_index sorted i → key ≡ widths.names + i → AreGiven i sorted keys → AreGiven (i + 1) sorted (set keys n key)
 given_more sorted keys i n key within at is given =
     let written = λ (m : ℕ). after_write keys n key m within in
     record {
@@ -86,13 +87,13 @@ given_more sorted keys i n key within at is given =
       within = λ m high.
           elim (written m) [
             | inl new ↦ omega (arith, new.1)
-            | inr kept ↦ (let old : 4096 ≤ slice_index keys m = omega (arith, kept.1) in omega (arith, kept.1, given.within m old))
+            | inr kept ↦ (let old : widths.names ≤ slice_index keys m = omega (arith, kept.1) in omega (arith, kept.1, given.within m old))
           ];
       places = λ m high.
           elim (written m) [
-            | inl new ↦ (let place : slice_index (set keys n key) m - 4096 ≡ i = omega (arith, new.1) in ap (slice_index sorted) place ∙ sym at ∙ sym new.0)
+            | inl new ↦ (let place : slice_index (set keys n key) m - widths.names ≡ i = omega (arith, new.1) in ap (slice_index sorted) place ∙ sym at ∙ sym new.0)
             | inr kept ↦
-                (let old : 4096 ≤ slice_index keys m = omega (arith, kept.1) in ap (λ k. slice_index sorted (k - 4096)) kept.1 ∙ given.places m old)
+                (let old : widths.names ≤ slice_index keys m = omega (arith, kept.1) in ap (λ k. slice_index sorted (k - widths.names)) kept.1 ∙ given.places m old)
           ];
     }
 
@@ -118,7 +119,7 @@ past_upto texts a b past low =
     ap (λ text. is_gt (ordering_then (slice_cmp nat_cmp text (text_at texts b)) (nat_cmp b a))) (text_past texts a past) ∙ empty_upto (text_at texts b) a b low
 
 -- each name that has a text has a key
-key_given : (texts : List (List ℕ)) (sorted keys : List ℕ) → IsPermutation (range_with_len 0 (length texts)) sorted → AreGiven (length sorted) sorted keys → (a : ℕ) → a < length texts → 4096 ≤ slice_index keys a
+key_given : (texts : List (List ℕ)) (sorted keys : List ℕ) → IsPermutation (range_with_len 0 (length texts)) sorted → AreGiven (length sorted) sorted keys → (a : ℕ) → a < length texts → widths.names ≤ slice_index keys a
 key_given texts sorted keys same given a low =
     let n = length texts in
     let there : Contains (range_with_len 0 n) a = (a, omega (arith, length-range_with_len 0 n), get_or-range_with_len 0 n a a low ∙ zero-add a) in
@@ -138,10 +139,10 @@ places_upto texts sorted up i j low within =
     let far = sorted_far (λ a b. is_lt (name_cmp texts a b)) (ranks_by total (λ (n : ℕ). n)) sorted up i j 0 low within in
     is_upto_if (name_cmp texts (slice_index sorted i) (slice_index sorted j)) (ap is_lt (sym (total.antisymm (slice_index sorted j) (slice_index sorted i))) ∙ far)
 
-both_upto : (texts : List (List ℕ)) (sorted keys : List ℕ) → IsSortedBy (λ a b. is_lt (name_cmp texts a b)) sorted → AreGiven (length sorted) sorted keys → (a b : ℕ) → 4096 ≤ slice_index keys a → 4096 ≤ slice_index keys b → slice_index keys a ≤ slice_index keys b → IsUpto texts a b
+both_upto : (texts : List (List ℕ)) (sorted keys : List ℕ) → IsSortedBy (λ a b. is_lt (name_cmp texts a b)) sorted → AreGiven (length sorted) sorted keys → (a b : ℕ) → widths.names ≤ slice_index keys a → widths.names ≤ slice_index keys b → slice_index keys a ≤ slice_index keys b → IsUpto texts a b
 both_upto texts sorted keys up given a b high high' low =
-    let i = slice_index keys a - 4096 in
-    let j = slice_index keys b - 4096 in
+    let i = slice_index keys a - widths.names in
+    let j = slice_index keys b - widths.names in
     let order : i ≤ j = omega arith in
     let upto = places_upto texts sorted up i j order (given.within b high') in
     subst (λ n. IsUpto texts n b) (given.places a high) (subst (λ n. IsUpto texts (slice_index sorted i) n) (given.places b high') upto)

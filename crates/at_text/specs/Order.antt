@@ -4,6 +4,7 @@ use Rattle.std.specs.Ordering.{nat_cmp, ordering_then, is_gt}
 use Rattle.std.specs.declared.cmp.Ordering.{Ordering}
 use Rattle.std.specs.Cmp.Lexicographic.{slice_cmp}
 use Rattle.at_value.specs.declared.value.Value.{Value}
+use Rattle.at_value.specs.Widths as widths
 use Rattle.at_text.specs.Values.{text_at}
 
 -- two names by the bytes of their texts, and by falling number where these are the same
@@ -20,7 +21,7 @@ key_at keys n = unwrap_or (slice_get keys n) (4095 - n)
 
 -- names of rising keys come one after another
 abbrev pub AreKeys : List (List ℕ) → List ℕ → Type 0
-AreKeys texts keys = (a b : ℕ) → a < 4096 → b < 4096 → key_at keys a ≤ key_at keys b → IsUpto texts a b
+AreKeys texts keys = (a b : ℕ) → a < widths.names → b < widths.names → key_at keys a ≤ key_at keys b → IsUpto texts a b
 
 -- the keys of all names, and the pairs of one map, each behind its key
 pub record Order : Type 0 where
@@ -37,6 +38,6 @@ keyed keys pair = (key_at keys pair.0, pair.0, pair.1)
 
 -- The first names of the list have keys. A key from 4,096 on is the place of its name among them, and 4,096.
 pub record AreGiven (count : ℕ) (sorted keys : List ℕ) : Type 0 where
-  pub all : (k : ℕ) → k < count → 4096 ≤ slice_index keys (slice_index sorted k)
-  pub within : (n : ℕ) → 4096 ≤ slice_index keys n → slice_index keys n - 4096 < count
-  pub places : (n : ℕ) → 4096 ≤ slice_index keys n → slice_index sorted (slice_index keys n - 4096) ≡ n
+  pub all : (k : ℕ) → k < count → widths.names ≤ slice_index keys (slice_index sorted k)
+  pub within : (n : ℕ) → widths.names ≤ slice_index keys n → slice_index keys n - widths.names < count
+  pub places : (n : ℕ) → widths.names ≤ slice_index keys n → slice_index sorted (slice_index keys n - widths.names) ≡ n

@@ -4,6 +4,7 @@ ghost use Rattle.std.specs.List.{range_with_len};
 ghost use Rattle.std.specs.List.Sorted.{IsPermutation, IsNonDecreasingBy, IsSortedBy};
 ghost use Rattle.std.specs.Ordering.{is_lt};
 ghost use Rattle.at_value.specs.Pairs.{IsRising};
+ghost use Rattle.at_value.specs.Widths as widths;
 ghost use Rattle.at_text.specs.Order.{AreGiven, AreKeys, key_at, keyed, name_cmp, pair_of};
 ghost use Rattle.at_text.specs.Values.{text_at};
 
@@ -14,7 +15,7 @@ use std::cmp::Ordering;
 use std::marker::Model;
 
 /// How many names one map has at most.
-const ROOM: usize = 4096;
+const ROOM: usize = Name::COUNT as usize;
 
 /// Keys that sort names as the bytes of their texts do, and room for the names of one map, each behind its key.
 #[derive(Drop)]
@@ -25,13 +26,14 @@ pub struct ByBytes {
 
 impl Model for ByBytes {
     ghost use Rattle.std.specs.Prelude.{◌≡◌, vec_capacity};
+    ghost use Rattle.at_value.specs.Widths as widths;
     ghost use Rattle.at_text.specs.Order.{Order};
 
     ghost Value = { Order };
 
     ghost view = { λ o. record { keys = o.keys.items; entries = o.entries.items } };
 
-    ghost invariant = { λ o. vec_capacity o.entries ≡ 4096 };
+    ghost invariant = { λ o. vec_capacity o.entries ≡ widths.names };
 }
 
 impl ByBytes {
@@ -51,7 +53,7 @@ impl ByBytes {
         ensures same { IsPermutation own.now (map pair_of self.new.entries) }
         ensures sorted { IsNonDecreasingBy (λ pair. key_at self.old.keys pair.0) (map pair_of self.new.entries) }
         ensures rising { IsRising own.now }
-        ensures range { All (λ pair. pair.0 < 4096) own.now }
+        ensures range { All (λ pair. pair.0 < widths.names) own.now }
     {
         take_in(own, &self.keys, &mut self.entries);
         self.entries.sort_unstable_by_key(|entry| entry.0);
@@ -68,7 +70,7 @@ impl ByBytes {
 /// The key of a name.
 fn key_of(keys: &[u16], name: Name) -> u16
     ensures key { result ≡ key_at keys.now name }
-    ensures range { name < 4096 }
+    ensures range { name < widths.names }
 {
     let number = name.number();
     match keys.get(usize::from(number)) {
@@ -79,11 +81,11 @@ fn key_of(keys: &[u16], name: Name) -> u16
 
 /// Takes the pairs of a map in, each behind its key.
 fn take_in(own: &Pairs, keys: &[u16], entries: &mut Vec<(u16, Name, Value)>)
-    requires { vec_capacity entries.old ≡ 4096 }
+    requires { vec_capacity entries.old ≡ widths.names }
     ensures entries { entries.new.items ≡ map (keyed keys.now) own.now }
     ensures capacity { vec_capacity entries.new ≡ vec_capacity entries.old }
     ensures rising { IsRising own.now }
-    ensures range { All (λ pair. pair.0 < 4096) own.now }
+    ensures range { All (λ pair. pair.0 < widths.names) own.now }
 {
     entries.clear();
     for i in 0..own.len() {
@@ -112,7 +114,7 @@ fn compare(names: &Script, a: Name, b: Name) -> Ordering
 
 /// The name with this number.
 fn name_at(number: usize) -> Name
-    requires { number < 4096 }
+    requires { number < widths.names }
     ensures { result ≡ number }
 {
     Name::new(number as u16).unwrap()
@@ -121,7 +123,7 @@ fn name_at(number: usize) -> Name
 /// The names of the script, by rising number.
 fn all_names(alloc: Global, names: &Script) -> Result<Vec<Name>, AllocError>
     ensures all { IfOk result (λ all. all.items ≡ range_with_len 0 (length names.now.names)) }
-    ensures most { length names.now.names ≤ 4096 }
+    ensures most { length names.now.names ≤ widths.names }
 {
     let mut all = Vec::with_capacity(alloc, names.names())?;
     for number in 0..names.names() {
@@ -134,7 +136,7 @@ fn all_names(alloc: Global, names: &Script) -> Result<Vec<Name>, AllocError>
 fn sorted_names(alloc: Global, names: &Script) -> Result<Vec<Name>, AllocError>
     ensures same { IfOk result (λ sorted. IsPermutation (range_with_len 0 (length names.now.names)) sorted.items) }
     ensures sorted { IfOk result (λ sorted. IsSortedBy (λ a b. is_lt (name_cmp names.now.names a b)) sorted.items) }
-    ensures most { length names.now.names ≤ 4096 }
+    ensures most { length names.now.names ≤ widths.names }
 {
     let mut sorted = all_names(alloc, names)?;
     sorted.sort_unstable_by(|a, b| compare(names, *a, *b));
@@ -143,7 +145,7 @@ fn sorted_names(alloc: Global, names: &Script) -> Result<Vec<Name>, AllocError>
 
 /// The keys of names that come in this order, by number: 4,096 and its place for each.
 fn keys_in(alloc: Global, sorted: &[Name]) -> Result<Vec<u16>, AllocError>
-    requires most { length sorted.now ≤ 4096 }
+    requires most { length sorted.now ≤ widths.names }
     requires below { All (λ n. n < length sorted.now) sorted.now }
     ensures { IfOk result (λ keys. (length keys.items ≡ length sorted.now) × AreGiven (length sorted.now) sorted.now keys.items) }
 {

@@ -8,6 +8,7 @@ use Rattle.at_c3.specs.Merge.{order_of_lists}
 use Rattle.at_c3.proofs.NumberLemmas.{has}
 use Rattle.at_value.specs.Classes.{AreClasses}
 use Rattle.at_value.specs.declared.reply.Reply.TheVariants as replies
+use Rattle.at_value.specs.Widths as widths
 use Rattle.at_world.specs.declared.rows.ClassRow.{ClassRow}
 use Rattle.at_world.specs.declared.rows.Object.{Object}
 use Rattle.at_world.specs.World.{World, Map, row_of, order_in, order_of, opening}
@@ -27,7 +28,7 @@ gathered_order classes orders lists c n bases items are free below made is_c are
 
 -- the new class and its order are kept beside the others
 pub kept_defined : (classes : List (Option ClassRow)) (orders : List (SmallVec ℕ)) (objects : List Object) (dicts : List Map) (c i : ℕ) (bases : List ℕ) (own : Map) (order : SmallVec ℕ)
-    → IsKept classes (lists_of orders) objects dicts → row_of classes c ≡ None → c < 255
+    → IsKept classes (lists_of orders) objects dicts → row_of classes c ≡ None → c < widths.classes
     → order_in (set classes c (Some (record { bases = bases; own = [] }))) c ≡ Some order.items → i ≡ c → own ≡ []
     → IsKept (set classes i (Some (record { bases = bases; own = own }))) (lists_of (set orders i order)) objects dicts
 kept_defined classes orders objects dicts c i bases own order kept free below is at empty =
@@ -105,12 +106,12 @@ kept_opening classes orders objects dicts are_classes are_orders no_objects no_d
     })
 
 -- the numbers of an order are those of classes
-are_classes_from_below : (order : List ℕ) → ((d : ℕ) → has d order ≡ true → d < 255) → AreClasses order
+are_classes_from_below : (order : List ℕ) → ((d : ℕ) → has d order ≡ true → d < widths.classes) → AreClasses order
 are_classes_from_below [] below i = lit< tt
 are_classes_from_below (x ∷ xs) below zero = below x (or_left (x == x) (has x xs) (eq-eqb x x refl))
 are_classes_from_below (x ∷ xs) below (suc i) = are_classes_from_below xs (λ d at. below d (or_right (x == d) (has d xs) at)) i
 
-pub order_numbers : (classes : List (Option ClassRow)) (c : ℕ) (order : List ℕ) → length classes ≡ 255 → order_in classes c ≡ Some order → AreClasses order
+pub order_numbers : (classes : List (Option ClassRow)) (c : ℕ) (order : List ℕ) → length classes ≡ widths.classes → order_in classes c ≡ Some order → AreClasses order
 order_numbers classes c order long is =
     are_classes_from_below order (λ d at.
     let below = made_below classes d (order_members_made (suc (length classes)) classes c d order is at) in

@@ -9,6 +9,7 @@ use Rattle.at_value.specs.declared.operation.Op.TheVariants as ops
 use Rattle.at_value.specs.declared.value.Value.TheVariants as values
 use Rattle.at_value.specs.declared.reply.Reply as reply
 use Rattle.at_value.specs.declared.reply.Reply.TheVariants as replies
+use Rattle.at_value.specs.Widths as widths
 use Rattle.at_desc.specs.declared.descriptor.Three.{Three}
 use Rattle.at_desc.specs.declared.descriptor.Step as step
 use Rattle.at_desc.specs.declared.descriptor.Step.TheVariants as steps
@@ -72,7 +73,7 @@ effect-left w (ops.SetBases c bases) =
     (either w (stepping.is_empty bases) _ _ (λ _. refl)
     (either w (stepping.has_repeat bases) _ _ (λ _. refl)
     (either w (stepping.is_cycle w c bases) _ _ (λ _. refl) (ordered-left w (stepping.with_bases w c bases) (stepping.first_unordered (stepping.with_bases w c bases))))))
-effect-left w (ops.New c) = either w (c == object) _ _ (λ _. refl) (either w (leb 4096 (length w.objects)) _ _ (λ _. refl) (λ is. absurd (true≢false is)))
+effect-left w (ops.New c) = either w (c == object) _ _ (λ _. refl) (either w (leb widths.objects (length w.objects)) _ _ (λ _. refl) (λ is. absurd (true≢false is)))
 effect-left w (ops.Set o n v) = set_on-left w o n v (slice_get w.objects o)
 effect-left w (ops.Del o n) = del_on-left w o n (slice_get w.objects o)
 effect-left w (ops.SetClass o c) = set_class-left w o c (slice_get w.objects o)

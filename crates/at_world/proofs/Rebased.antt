@@ -3,6 +3,7 @@ use Rattle.std.proofs.Common.{◌≡◌, ◌∙◌, ap, sym, refl, ℕ, suc, ◌
 use Rattle.std.proofs.lemmas.Bool.{and_parts}
 use Rattle.std.proofs.lemmas.List.{length-set}
 use Rattle.at_value.specs.declared.reply.Reply.TheVariants as replies
+use Rattle.at_value.specs.Widths as widths
 use Rattle.at_world.specs.declared.rows.ClassRow.{ClassRow}
 use Rattle.at_world.specs.declared.rows.Object.{Object}
 use Rattle.at_world.specs.World.{World, Map, row_of, own_of, order_of}
@@ -56,7 +57,7 @@ order_or_none-same (c ∷ cs) order is = cc
 
 -- the new classes and orders are kept, where no order is missing
 pub kept_rebased : (classes : List (Option ClassRow)) (was orders : List (List ℕ)) (objects : List Object) (dicts : List Map) (c : ℕ) (bases : List ℕ)
-    → IsKept classes was objects dicts → IsTrue (is_some (row_of classes c)) → AreNewOrders (rebased classes c bases) orders → length orders ≡ 255
+    → IsKept classes was objects dicts → IsTrue (is_some (row_of classes c)) → AreNewOrders (rebased classes c bases) orders → length orders ≡ widths.classes
     → first_empty 0 classes orders ≡ None → IsKept (rebased classes c bases) orders objects dicts
 kept_rebased classes was orders objects dicts c bases kept made are long none =
     let w : World = record { classes = classes; objects = objects; dicts = dicts } in

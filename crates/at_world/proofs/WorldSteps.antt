@@ -12,6 +12,7 @@ use Rattle.at_value.specs.declared.value.Value as value
 use Rattle.at_value.specs.declared.value.Value.TheVariants as values
 use Rattle.at_value.specs.declared.operation.Op as op
 use Rattle.at_value.specs.declared.operation.Op.TheVariants as ops
+use Rattle.at_value.specs.Widths as widths
 use Rattle.at_desc.specs.declared.descriptor.Step as step
 use Rattle.at_desc.specs.declared.descriptor.Step.TheVariants as steps
 use Rattle.at_world.specs.declared.rows.ClassRow.{ClassRow}
@@ -135,14 +136,14 @@ IsPlaced w many o = IsMade w o.class × (o.dict < many)
 new-formed : (w : World) (c : ℕ) → IsWellFormed w → IsMade w c → IsWellFormed (stepping.new_effect w c).world
 new-formed w c formed made =
     after_test (c == object) _ _ (λ _. formed) (λ _.
-    after_test (leb 4096 (length w.objects)) _ _ (λ _. formed) (λ room.
+    after_test (leb widths.objects (length w.objects)) _ _ (λ _. formed) (λ room.
     let fresh : Object = record { class = c; dict = length w.objects } in
     let objects = w.objects ++ fresh ∷ [] in
     let dicts = w.dicts ++ [] ∷ [] in
     let changed = with_objects w objects dicts in
     let one_more : length objects ≡ length w.objects + 1 = length-append w.objects (fresh ∷ []) in
     let one_dict : length dicts ≡ length w.dicts + 1 = length-append w.dicts ([] ∷ []) in
-    let less : length w.objects < 4096 = leb-false 4096 (length w.objects) room in
+    let less : length w.objects < widths.objects = leb-false widths.objects (length w.objects) room in
     let kept : length w.dicts ≡ length w.objects = formed.kept in
     formed-with_objects w objects dicts formed (omega arith) (omega arith)
     (All-push (IsPlaced w (length objects)) w.objects fresh
@@ -200,7 +201,7 @@ with_object_at-formed w o now formed placed =
     let objects = set w.objects o now in
     let changed = with_objects w objects w.dicts in
     let long : length objects ≡ length w.objects = length-set w.objects o now in
-    let few : length w.objects ≤ 4096 = formed.few in
+    let few : length w.objects ≤ widths.objects = formed.few in
     formed-with_objects w objects w.dicts formed (omega arith) (omega arith)
     (subst (λ many. All (IsPlaced w many) objects) (sym long) (All-set (IsPlaced w (length w.objects)) w.objects o now placed formed.placed))
     (formed.kept ∙ sym long)

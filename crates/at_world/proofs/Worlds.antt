@@ -8,6 +8,7 @@ use Rattle.at_value.specs.Numbers.{object}
 use Rattle.at_value.specs.Pairs.{with_value, without}
 use Rattle.at_value.specs.declared.value.Value as value
 use Rattle.at_value.specs.declared.value.Value.TheVariants as values
+use Rattle.at_value.specs.Widths as widths
 use Rattle.at_world.specs.declared.rows.ClassRow.{ClassRow}
 use Rattle.at_world.specs.declared.rows.Object.{Object}
 use Rattle.at_world.specs.World.{World, Map, row_of, own_of, bases_of, order_of, opening, IsMade, NamesMade, AllNameMade, IsWellFormed}
@@ -111,7 +112,7 @@ abbrev pub with_objects : World → List Object → List Map → World
 with_objects w objects dicts = record w { objects = objects; dicts = dicts }
 
 -- These are the objects and dictionaries now: no fewer objects, as many dictionaries, and all that is named is there.
-pub formed-with_objects : (w : World) (objects : List Object) (dicts : List Map) → IsWellFormed w → length w.objects ≤ length objects → length objects ≤ 4096
+pub formed-with_objects : (w : World) (objects : List Object) (dicts : List Map) → IsWellFormed w → length w.objects ≤ length objects → length objects ≤ widths.objects
     → All (λ (o : Object). IsMade w o.class × (o.dict < length objects)) objects → length dicts ≡ length objects
     → All (AllNameMade (with_objects w objects dicts)) dicts
     → IsWellFormed (with_objects w objects dicts)
@@ -165,7 +166,7 @@ none_twice = tt
 
 pub opening_is_formed : IsWellFormed opening
 opening_is_formed = record {
-  numbered = length-replicate {A = Option ClassRow} 255 None;
+  numbered = length-replicate {A = Option ClassRow} widths.classes None;
   rooted = refl;
   based = λ c b base. absurd (no_base b (subst (λ bases. Contains bases b) (no_bases c) base));
   distinct = λ c. subst (IsDistinct nat_eq) (sym (no_bases c)) none_twice;

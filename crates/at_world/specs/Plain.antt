@@ -2,6 +2,7 @@
 use Rattle.std.specs.Prelude.{ℕ, ◌≡◌, ◌+◌, ◌-◌, ◌^◌, ◌≤◌, min, length, map, List, [], ◌∷◌, Option, Some, None, if◌then◌else◌, IsTrue, is_some, slice_index_or}
 use Rattle.smallvec.specs.SmallVec.{SmallVec}
 use Rattle.at_value.specs.declared.operation.Op as op
+use Rattle.at_value.specs.Widths as widths
 use Rattle.at_world.specs.declared.rows.ClassRow.{ClassRow}
 use Rattle.at_world.specs.World.{World, Map, row_of, all_orders, joined, order_in}
 use Rattle.at_world.specs.Attributes.{Outcome}
@@ -32,10 +33,10 @@ lists_of orders = map (λ l. l.items) orders
 
 -- what is true of classes, their orders, objects and dictionaries that are kept
 pub record IsKept (classes : List (Option ClassRow)) (orders : List (List ℕ)) (objects : List Object) (dicts : List Map) : Type 0 where
-  pub numbered : length classes ≡ 255
-  pub ordered : length orders ≡ 255
+  pub numbered : length classes ≡ widths.classes
+  pub ordered : length orders ≡ widths.classes
   pub orders_are : AreOrders classes orders
-  pub few : length objects ≤ 4096
+  pub few : length objects ≤ widths.objects
   pub named : length dicts ≡ length objects
 
 -- the order that a list stands for: none where it is empty, since an order has its own class

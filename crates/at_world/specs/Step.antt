@@ -14,6 +14,7 @@ use Rattle.at_value.specs.declared.operation.Op as op
 use Rattle.at_value.specs.declared.operation.Op.TheVariants as ops
 use Rattle.at_value.specs.declared.reply.Reply as reply
 use Rattle.at_value.specs.declared.reply.Reply.TheVariants as replies
+use Rattle.at_value.specs.Widths as widths
 use Rattle.at_world.specs.declared.rows.ClassRow.{ClassRow}
 use Rattle.at_world.specs.declared.rows.Object.{Object}
 use Rattle.at_world.specs.World.{World, Map, row_of, own_of, order_of, find_in}
@@ -159,10 +160,6 @@ type_del_effect w c n =
 
 -- Objects
 
--- how many objects there may be
-abbrev pub most_objects : ℕ
-most_objects = 4096
-
 -- the new object has the next number, and an empty dictionary of that name
 abbrev pub with_object : World → ℕ → World
 with_object w c = record w { objects = w.objects ++ (record { class = c; dict = length w.objects }) ∷ []; dicts = w.dicts ++ [] ∷ [] }
@@ -172,7 +169,7 @@ abbrev pub new_effect : World → ℕ → Outcome
 new_effect w c =
     if c == object
     then unchanged w replies.Immutable
-    else if nat_le most_objects (length w.objects)
+    else if nat_le widths.objects (length w.objects)
     then unchanged w replies.Full
     else record { reply = replies.Made (length w.objects) (find_in w c init); world = with_object w c }
 

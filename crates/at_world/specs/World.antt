@@ -7,6 +7,7 @@ use Rattle.at_value.specs.Numbers.{object}
 use Rattle.at_value.specs.Pairs.{value_at}
 use Rattle.at_value.specs.declared.value.Value as value
 use Rattle.at_value.specs.declared.value.Value.TheVariants as values
+use Rattle.at_value.specs.Widths as widths
 use Rattle.at_world.specs.declared.rows.ClassRow.{ClassRow}
 use Rattle.at_world.specs.declared.rows.Object.{Object}
 
@@ -120,14 +121,14 @@ AllNameMade w names = All (λ (pair : ℕ × value.Value). NamesMade w pair.1) n
 -- object and dictionary that is named is there; no class has a base twice or stands above itself, and each has an order;
 -- there are at most 4,096 objects, and a dictionary for each.
 pub record IsWellFormed (w : World) : Type 0 where
-  pub numbered : length w.classes ≡ 255
+  pub numbered : length w.classes ≡ widths.classes
   pub rooted : row_of w.classes object ≡ Some (record { bases = []; own = [] })
   pub based : (c b : ℕ) → IsBase w b c → IsMade w b
   pub distinct : (c : ℕ) → IsDistinct nat_eq (bases_of (row_of w.classes c))
   pub acyclic : (n c : ℕ) → ¬ IsAboveBy n w c c
   pub ordered : (c : ℕ) → IsMade w c → (order : List ℕ) × (order_of w c ≡ Some order)
   pub named : (c : ℕ) → AllNameMade w (own_of (row_of w.classes c))
-  pub few : length w.objects ≤ 4096
+  pub few : length w.objects ≤ widths.objects
   pub placed : All (λ (o : Object). IsMade w o.class × (o.dict < length w.objects)) w.objects
   pub kept : length w.dicts ≡ length w.objects
   pub held : All (AllNameMade w) w.dicts

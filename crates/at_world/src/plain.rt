@@ -14,13 +14,13 @@ mod rebasing;
 
 use crate::rows::{ClassRow, Object};
 use at_c3::List;
-use at_value::{Bases, Op, Pairs, Place, Reply};
+use at_value::{Bases, Class, Op, Pairs, Place, Reply};
 use smallvec::SmallVec;
 use std::alloc::{AllocError, Global};
 use std::marker::Model;
 
 /// How many class numbers there are.
-const CLASSES: usize = 255;
+const CLASSES: usize = Class::COUNT as usize;
 
 /// A world, and the count of the writes that led to it. The orders of the classes are kept beside it, so that a look-up
 /// computes none. Contracts see the world and the count.

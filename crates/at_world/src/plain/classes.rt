@@ -1,6 +1,7 @@
 //! Operations that make classes, and that change their names.
 ghost use Rattle.std.specs.Prelude.{◌≡◌, Some, None, IsTrue, IfOk, OnOk, OnErr, IsErrOf, length};
 ghost use Rattle.at_value.specs.Pairs.{value_at, with_value, without};
+ghost use Rattle.at_value.specs.Widths as widths;
 ghost use Rattle.at_world.specs.World as world;
 ghost use Rattle.at_world.specs.Step as steps;
 
@@ -112,7 +113,7 @@ fn is_among(c: Class, classes: &[Class]) -> bool
 
 /// Puts a value under a name of a class.
 fn put_own(classes: &mut [Option<ClassRow>], c: Class, n: Name, v: Value) -> Result<(), AllocError>
-    requires { length classes.old ≡ 255 }
+    requires { length classes.old ≡ widths.classes }
     ensures ok { OnOk result (let row = world.row_of classes.old c in classes.new ≡ steps.with_names classes.old c row (with_value n v (world.own_of row))) }
     ensures err { OnErr result (classes.new ≡ classes.old) }
 {
@@ -128,7 +129,7 @@ fn put_own(classes: &mut [Option<ClassRow>], c: Class, n: Name, v: Value) -> Res
 
 /// Takes a name out of a class.
 fn cut_own(classes: &mut [Option<ClassRow>], c: Class, n: Name)
-    requires { length classes.old ≡ 255 }
+    requires { length classes.old ≡ widths.classes }
     ensures { (let row = world.row_of classes.old c in classes.new ≡ steps.with_names classes.old c row (without n (world.own_of row))) }
 {
     let i = usize::from(c.number());

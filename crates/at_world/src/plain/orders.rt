@@ -1,6 +1,7 @@
 //! Orders that are kept as lists, one for each class number, and orders that are computed from them.
 ghost use Rattle.std.specs.Prelude.{◌≡◌, ◌≤◌, ◌<◌, [], ℕ, Some, None, IfOk, IsErrOf, length, map, slice_index_or, slice_set};
 ghost use Rattle.std.specs.List.{list_any};
+ghost use Rattle.at_value.specs.Widths as widths;
 ghost use Rattle.at_c3.specs.Merge.{order_of_lists};
 ghost use Rattle.at_world.specs.Step.{is_empty};
 ghost use Rattle.at_world.specs.Plain.{lists_of, order_or_none, order_by};
@@ -17,7 +18,7 @@ pub(super) fn order_from(
     c: u16,
     bases: &[Class],
 ) -> Result<List, MergeFault>
-    requires { length orders.now ≡ 255 }
+    requires { length orders.now ≡ widths.classes }
     ensures ordered { IfOk result (λ order. order_of_lists c bases.now (map (λ b. slice_index_or (lists_of orders.now) b []) bases.now) ≡ Some order.items) }
     ensures none { IsErrOf result MergeFault.NoHead → order_of_lists c bases.now (map (λ b. slice_index_or (lists_of orders.now) b []) bases.now) ≡ None }
 {
@@ -38,7 +39,7 @@ pub(super) fn order_or_empty(
     c: u16,
     bases: &[Class],
 ) -> Result<List, AllocError>
-    requires { length orders.now ≡ 255 }
+    requires { length orders.now ≡ widths.classes }
     ensures { IfOk result (λ order. order_or_none order.items ≡ order_by (lists_of orders.now) c bases.now) }
 {
     if has_unordered(orders, bases) {
@@ -53,7 +54,7 @@ pub(super) fn order_or_empty(
 
 /// Whether the order of one of these classes is empty.
 fn has_unordered(orders: &[List], classes: &[Class]) -> bool
-    requires { length orders.now ≡ 255 }
+    requires { length orders.now ≡ widths.classes }
     ensures { result ≡ list_any (λ c. is_empty (slice_index_or (lists_of orders.now) c [])) classes.now }
 {
     classes.iter().any(|c| is_empty_at(orders, c.number()))

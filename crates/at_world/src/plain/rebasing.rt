@@ -2,6 +2,7 @@
 ghost use Rattle.std.specs.Prelude.{◌≡◌, ◌&&◌, ◌<◌, ◌^◌, ◌∷◌, [], ℕ, List, false, Some, IsTrue, IfOk, OnOk, OnErr, length, is_some, suc, slice_index_or};
 ghost use Rattle.std.specs.List.{list_any, list_all};
 ghost use Rattle.std.specs.Option.{option_copied};
+ghost use Rattle.at_value.specs.Widths as widths;
 ghost use Rattle.at_world.specs.World as world;
 ghost use Rattle.at_world.specs.Step as steps;
 ghost use Rattle.at_world.specs.Plain.{AreOrders, lists_of};
@@ -84,13 +85,13 @@ fn new_orders(
     c: Class,
     bases: &Bases,
 ) -> Result<Vec<List>, AllocError>
-    requires numbered { length classes.now ≡ 255 }
-    requires ordered { length was.now ≡ 255 }
+    requires numbered { length classes.now ≡ widths.classes }
+    requires ordered { length was.now ≡ widths.classes }
     requires kept { AreOrders classes.now (lists_of was.now) }
     requires made { IsTrue (list_all (λ b. is_some (world.row_of classes.now b)) (c ∷ bases.now)) }
     requires acyclic { list_any (λ b. steps.in_order c (world.order_in classes.now b)) bases.now ≡ false }
     ensures orders { IfOk result (λ orders. AreNewOrders (rebased classes.now c bases.now) (lists_of orders.items)) }
-    ensures long { IfOk result (λ orders. length orders.items ≡ 255) }
+    ensures long { IfOk result (λ orders. length orders.items ≡ widths.classes) }
 {
     let mut orders = copies_of(alloc, was)?;
     let order = order_or_empty(alloc, was, c.number(), bases.as_slice())?;
@@ -110,10 +111,10 @@ fn renew(
     c: Class,
     long: usize,
 ) -> Result<(), AllocError>
-    requires numbered { length classes.now ≡ 255 }
-    requires ordered { length was.now ≡ 255 }
+    requires numbered { length classes.now ≡ widths.classes }
+    requires ordered { length was.now ≡ widths.classes }
     requires kept { AreOrders classes.now (lists_of was.now) }
-    requires same { length orders.old ≡ 255 }
+    requires same { length orders.old ≡ widths.classes }
     requires most { suc long < 2 ^ 64 }
     ensures { (bases : List ℕ) → let changed = rebased classes.now c bases in AreRenewed changed classes.now (lists_of was.now) c long 0 (lists_of orders.old)
         → OnOk result (AreRenewed changed classes.now (lists_of was.now) c (suc long) 0 (lists_of orders.new)) }
@@ -138,8 +139,8 @@ fn due_row<'a>(
     long: usize,
     i: usize,
 ) -> Option<&'a ClassRow>
-    requires ordered { length was.now ≡ 255 }
-    requires below { i < 255 }
+    requires ordered { length was.now ≡ widths.classes }
+    requires below { i < widths.classes }
     requires most { suc long < 2 ^ 64 }
     ensures { option_copied result ≡ due_row classes.now (lists_of was.now) c long i }
 {
@@ -167,8 +168,8 @@ fn has_number(number: u16, list: &[u16]) -> bool
 
 /// The least class that is made and whose order is empty.
 fn first_without(classes: &[Option<ClassRow>], orders: &[List]) -> Option<Class>
-    requires numbered { length classes.now ≡ 255 }
-    requires ordered { length orders.now ≡ 255 }
+    requires numbered { length classes.now ≡ widths.classes }
+    requires ordered { length orders.now ≡ widths.classes }
     ensures { result ≡ first_empty 0 classes.now (lists_of orders.now) }
 {
     for i in 0..CLASSES {
@@ -189,7 +190,7 @@ fn is_without(classes: &[Option<ClassRow>], orders: &[List], c: u16) -> bool
 
 /// Gives a class other bases.
 fn replace_bases(classes: &mut [Option<ClassRow>], c: Class, bases: &Bases)
-    requires numbered { length classes.old ≡ 255 }
+    requires numbered { length classes.old ≡ widths.classes }
     requires made { IsTrue (is_some (world.row_of classes.old c)) }
     ensures { classes.new ≡ rebased classes.old c bases.now }
 {

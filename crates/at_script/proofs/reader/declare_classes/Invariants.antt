@@ -1,4 +1,5 @@
 use Rattle.std.proofs.Common.{◌≡◌}
+use Rattle.at_value.specs.Widths as widths
 use Rattle.at_script.specs.Pieces.{pieces_left}
 use Rattle.at_name.specs.Texts.{all_interned}
 use Rattle.at_script.specs.Script.{declared_in}
@@ -8,4 +9,4 @@ use Rattle.at_script.proofs.reader.declare_classes.Given as goal
 abbrev pub invariant-loop-line : goal.invariant-loop-line
 invariant-loop-line l =
     (goal.iterator-loop-line).can_next l.line-iterator × (goal.iterator-loop-line).is_finite l.line-iterator
-    × (all_interned 255 l.classes (declared_in (pieces_left l.line-iterator)) ≡ all_interned 255 l.initial.classes (declared_in (pieces_left l.fn.lines)))
+    × (all_interned widths.classes l.classes (declared_in (pieces_left l.line-iterator)) ≡ all_interned widths.classes l.initial.classes (declared_in (pieces_left l.fn.lines)))

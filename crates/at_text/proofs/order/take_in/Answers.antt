@@ -1,5 +1,6 @@
 use Rattle.std.proofs.Common.{◌≡◌, ◌≤◌, ◌∙◌, ◌<◌, ◌+◌, ◌++◌, ◌∷◌, [], ap, sym, arith}
 use Rattle.std.specs.Prelude.{Some, slice_get}
+use Rattle.at_value.specs.Widths as widths
 use Rattle.at_text.specs.Order.{keyed}
 use Rattle.at_text.proofs.Keys.{place_upto_pair, map_taken, range_taken}
 use Rattle.at_text.proofs.order.take_in.Goals as goal
@@ -19,5 +20,5 @@ loop-i-preserved c =
           ∙ ap (λ l. l ++ keyed c.args.keys.now c.unwrap-pair.result ∷ []) c.loop-i.invariant.entries ∙ map_taken (keyed c.args.keys.now) c.args.own.now c.loop-i.i c.unwrap-pair.result there;
       count = c.push_reserved.ensures.len ∙ ap (λ n. n + 1) c.loop-i.invariant.count;
       capacity = c.push_reserved.ensures.capacity ∙ c.loop-i.invariant.capacity;
-      range = range_taken (λ pair. pair.0 < 4096) c.args.own.now c.loop-i.i c.unwrap-pair.result there c.key_of-key.ensures.range c.loop-i.invariant.range;
+      range = range_taken (λ pair. pair.0 < widths.names) c.args.own.now c.loop-i.i c.unwrap-pair.result there c.key_of-key.ensures.range c.loop-i.invariant.range;
     }

@@ -1,4 +1,5 @@
 use Rattle.std.proofs.Common.{◌≡◌, ◌≤◌, ◌∷◌, ◌-◌, [], replicate, vec_capacity, length}
+use Rattle.at_value.specs.Widths as widths
 use Rattle.at_world.specs.Plain.{lists_of}
 use Rattle.at_world.proofs.plain.first_orders.Given as goal
 
@@ -7,6 +8,6 @@ abbrev pub invariant-loop : goal.invariant-loop
 invariant-loop l = record {
   orders : lists_of l.orders.items ≡ (0 ∷ []) ∷ replicate (l.counter - 1) [];
   long : length l.orders.items ≡ l.counter;
-  room : 255 ≤ vec_capacity l.orders;
+  room : widths.classes ≤ vec_capacity l.orders;
   from : 1 ≤ l.counter;
 }

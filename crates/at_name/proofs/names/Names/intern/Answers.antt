@@ -1,5 +1,6 @@
 use Rattle.std.proofs.Common.{rules, ◌≡◌, IfOk, Some}
 use Rattle.std.proofs.lemmas.Result.{IfOk-weaker}
+use Rattle.at_value.specs.Widths as widths
 use Rattle.at_name.specs.Texts.{interned}
 use Rattle.at_name.proofs.Tables.{AreNames-kept, place_of-interned}
 use Rattle.at_name.proofs.names.Names.intern.Goals as goal
@@ -10,5 +11,5 @@ invariant_of-self-2 c =
 
 pub returns-clause-number : goal.returns-clause-number
 returns-clause-number c =
-    let ok : IfOk c.match-branch-2.result (λ n. interned 4096 c.args.text.now c.args.self.now ≡ Some (n, c.intern.new.self)) = search rules in
-    IfOk-weaker c.match-branch-2.result _ _ (λ n e. place_of-interned 4096 c.args.text.now c.args.self.now c.intern.new.self n e) ok
+    let ok : IfOk c.match-branch-2.result (λ n. interned widths.names c.args.text.now c.args.self.now ≡ Some (n, c.intern.new.self)) = search rules in
+    IfOk-weaker c.match-branch-2.result _ _ (λ n e. place_of-interned widths.names c.args.text.now c.args.self.now c.intern.new.self n e) ok

@@ -1,5 +1,6 @@
 use Rattle.std.proofs.Common.{◌≡◌, ap, sym, subst, arith, length, set, None, Some, Err}
 use Rattle.at_value.specs.declared.reply.Reply.TheVariants as replies
+use Rattle.at_value.specs.Widths as widths
 use Rattle.at_world.specs.World.{row_of, order_of}
 use Rattle.at_world.specs.Step.{with_class, if_ordered}
 use Rattle.at_world.specs.Plain.{State, AreOrders, lists_of}
@@ -34,7 +35,7 @@ returns-in-Ok-clause-ok c =
 pub returns-in-Err-NoHead-clause-ok : goal.returns-in-Err-NoHead-clause-ok
 returns-in-Err-NoHead-clause-ok c =
     let AreKept : State → Type 0 = λ s. AreOrders s.world.classes (lists_of c.self.inside.orders.items) in
-    let IsLong : State → Type 0 = λ s. length s.world.classes ≡ 255 in
-    let long : length c.args.self.now.world.classes ≡ 255 = subst IsLong c.self.view_is c.self.invariant.numbered in
+    let IsLong : State → Type 0 = λ s. length s.world.classes ≡ widths.classes in
+    let long : length c.args.self.now.world.classes ≡ widths.classes = subst IsLong c.self.view_is c.self.invariant.numbered in
     refused_state c.args.self.now (lists_of c.self.inside.orders.items) c.args.c c.args.bases.now (subst AreKept c.self.view_is c.self.invariant.orders_are) c.requires.free
     (omega (arith, long, c.number.ensures.same, c.number.ensures.range)) (c.in-Err-NoHead.ensures.none (ap (λ fault. Err fault) c.in-Err-NoHead.field-0-is))

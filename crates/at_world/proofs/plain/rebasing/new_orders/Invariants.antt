@@ -1,4 +1,5 @@
 use Rattle.std.proofs.Common.{◌≡◌, length}
+use Rattle.at_value.specs.Widths as widths
 use Rattle.at_world.specs.Plain.{lists_of}
 use Rattle.at_world.specs.Rebasing.{rebased, AreRenewed}
 use Rattle.at_world.proofs.plain.rebasing.new_orders.Given as goal
@@ -7,5 +8,5 @@ use Rattle.at_world.proofs.plain.rebasing.new_orders.Given as goal
 abbrev pub invariant-loop-long : goal.invariant-loop-long
 invariant-loop-long l = record {
   renewed : AreRenewed (rebased l.classes l.c l.bases) l.classes (lists_of l.was) l.c l.long 0 (lists_of l.orders.items);
-  numbered : length l.orders.items ≡ 255;
+  numbered : length l.orders.items ≡ widths.classes;
 }
