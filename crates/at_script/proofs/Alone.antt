@@ -1,12 +1,11 @@
 -- The run of a script whose only block is `main`.
-use Rattle.std.proofs.Common.{◌≡◌, ◌∙◌, refl, sym, ap, subst, ℕ, zero, suc, ◌+◌, List, [], ◌∷◌, ◌++◌, length, Option, Some, None, slice_get, append-nil, arith}
+use Rattle.std.proofs.Common.{◌≡◌, ◌∙◌, refl, sym, ap, subst, ℕ, suc, ◌+◌, List, [], ◌∷◌, ◌++◌, length, Some, None, slice_get, append-nil, arith}
 use Rattle.at_world.specs.declared.line.Line.{Line}
 use Rattle.at_world.specs.declared.line.What as what
 use Rattle.at_world.specs.Lines.{finally_thread}
 use Rattle.at_world.specs.Kept.{whats_of_thread}
-use Rattle.at_script.specs.declared.stmt.Stmt as stmt
 use Rattle.at_script.specs.Parts.{Parts}
-use Rattle.at_script.specs.Execution.{Variables, State, start}
+use Rattle.at_script.specs.Execution.{State, start}
 use Rattle.at_script.specs.Executions.{IsExecution}
 use Rattle.at_script.specs.Runs.{numbered, whole, Executes, unbound, IsRunOf}
 use Rattle.at_script.proofs.Numbering.{own, others}

@@ -1,8 +1,6 @@
 -- The statements that are read line by line are those of the block.
-use Rattle.std.proofs.Common.{◌≡◌, ◌∙◌, ap, refl, sym, ℕ, ◌+◌, ◌≤◌, List, [], ◌∷◌, ◌++◌, length, arith, append_assoc, append-nil, zero-add, true, false, cond, leb, ltb, bytes_eq, codes, Option, Some, None}
-use Rattle.std.proofs.lemmas.List.{length-append}
+use Rattle.std.proofs.Common.{◌≡◌, ◌∙◌, ap, refl, sym, ℕ, List, [], ◌∷◌, ◌++◌, append_assoc, append-nil, true, false, cond, codes, Option, Some, None}
 use Rattle.std.specs.Option.{option_map}
-use Rattle.std.proofs.lemmas.Bool.{ltb-true, ltb-false, lt-leb, le-leb}
 use Rattle.std.proofs.lemmas.Slice.Eq.{bytes_eq-Decides}
 use Rattle.at_value.specs.Widths as widths
 use Rattle.at_script.specs.declared.tables.Tables.{Tables}
@@ -11,7 +9,6 @@ use Rattle.at_script.specs.Literals.{◌>>=◌}
 use Rattle.at_script.specs.Shapes.{Said, words_say}
 use Rattle.at_script.specs.Tables.{opening, numbered}
 use Rattle.at_script.specs.Script.{words_of, before_end, all_say, all_numbered, is_this, has_only, behind_funcs, funcs_in, with_classes, with_funcs, block_read, script_read, declared_in, script_of_lines}
-use Rattle.at_script.specs.Parts.{Parts, script_with}
 use Rattle.at_script.specs.Pieces.{one_of}
 use Rattle.at_name.specs.Texts.{all_interned}
 use Rattle.at_script.specs.Reading.{stated, with_statement, with_line, main_of}

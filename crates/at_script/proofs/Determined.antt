@@ -1,6 +1,5 @@
 -- Executions that are told the same are the same.
 use Rattle.std.proofs.Common.{◌≡◌, ◌∙◌, refl, sym, ap, subst, ℕ, zero, suc, true, List, [], ◌∷◌, ◌++◌, Option, Some, None}
-use Rattle.at_value.specs.declared.operation.Op.TheVariants as ops
 use Rattle.at_value.specs.declared.reply.Reply as reply
 use Rattle.at_world.specs.declared.line.LineOp as line_op
 use Rattle.at_world.specs.declared.line.LineOp.TheVariants as line_ops
@@ -10,7 +9,7 @@ use Rattle.at_world.specs.declared.line.What as what
 use Rattle.at_world.specs.declared.line.What.TheVariants as whats
 use Rattle.at_script.specs.Parts.{Parts}
 use Rattle.at_script.specs.Execution.{State, Next, ended, silent, says, asks, dropped, taken, next_of}
-use Rattle.at_script.specs.Executions.{reply_taken, stands_for, can_write, can_wear, TakesReply, Fits, Leads, IsExecution}
+use Rattle.at_script.specs.Executions.{reply_taken, stands_for, TakesReply, Fits, Leads, IsExecution}
 use Rattle.at_script.specs.ExecutionLaws.{Told, replied, declined, told_by, all_told}
 
 -- a line that stands in the place of an operation is told

@@ -1,13 +1,13 @@
 -- Steps one after another.
-use Rattle.std.proofs.Common.{◌≡◌, ◌∙◌, refl, sym, ap, subst, ℕ, zero, suc, ◌+◌, ◌*◌, ◌<◌, ◌≤◌, arith, List, [], ◌∷◌, ◌++◌, length, Option, Some, None, append-nil, length-append}
+use Rattle.std.proofs.Common.{◌≡◌, refl, sym, ap, subst, ℕ, zero, suc, ◌+◌, ◌*◌, ◌<◌, ◌≤◌, arith, List, [], ◌∷◌, ◌++◌, length, Option, Some, None}
 use Rattle.at_value.specs.declared.reply.Reply as reply
 use Rattle.at_world.specs.declared.line.What as what
 use Rattle.at_world.specs.declared.line.What.TheVariants as whats
 use Rattle.at_script.specs.declared.stmt.Stmt as stmt
 use Rattle.at_script.specs.Parts.{Parts}
 use Rattle.at_script.specs.Execution.{Frame, State, Variables, Next, ended, silent, says, asks, dropped, taken, next_of, start}
-use Rattle.at_script.specs.Executions.{reply_taken, TakesReply, Answers, Fits, Leads, IsExecution, Makes}
-use Rattle.at_script.proofs.Steps.{size, pending, spare, Few, Onward, AllOnward, next_onward}
+use Rattle.at_script.specs.Executions.{reply_taken, TakesReply, Fits, Leads, IsExecution, Makes}
+use Rattle.at_script.proofs.Steps.{size, spare, Few, Onward, AllOnward, next_onward}
 
 -- what goes on may change where the lines are followed by more
 fits_more : (on off : State → List what.What → Type 0) (next : Next) (lines more : List what.What) → ((s : State) (rest : List what.What) → on s rest → off s (rest ++ more)) → Fits on next lines → Fits off next (lines ++ more)

@@ -1,5 +1,5 @@
 -- The lines of threads, numbered.
-use Rattle.std.proofs.Common.{◌≡◌, ◌∙◌, refl, sym, ap, subst, ℕ, zero, suc, ◌+◌, ◌==◌, arith, List, [], ◌∷◌, ◌++◌, Option, Some, None, Bool, true, false, if◌then◌else◌, slice_get, map}
+use Rattle.std.proofs.Common.{◌≡◌, ◌∙◌, refl, sym, ap, ℕ, zero, suc, ◌+◌, ◌==◌, arith, List, [], ◌∷◌, ◌++◌, Some, Bool, true, false, if◌then◌else◌, slice_get, map}
 use Rattle.std.proofs.lemmas.Bool.{eq-eqb}
 use Rattle.at_world.specs.declared.line.Line.{Line}
 use Rattle.at_world.specs.declared.line.What as what

@@ -1,5 +1,5 @@
 -- A thread says no line of a limit by itself.
-use Rattle.std.proofs.Common.{◌≡◌, ◌∙◌, refl, sym, subst, ℕ, ◌==◌, nat_le, Bool, true, false, List, [], ◌∷◌, length, Option, Some, None, Result, Ok, Err, if◌then◌else◌, slice_index_or}
+use Rattle.std.proofs.Common.{◌≡◌, subst, ℕ, nat_le, Bool, true, false, List, [], ◌∷◌, length, Option, Some, None, Result, Ok, Err, if◌then◌else◌, slice_index_or}
 use Rattle.at_value.specs.declared.value.Value as value
 use Rattle.at_value.specs.declared.value.Value.TheVariants as values
 use Rattle.at_world.specs.declared.line.Local as local
@@ -16,7 +16,7 @@ use Rattle.at_script.specs.declared.demand.Gives as given
 use Rattle.at_script.specs.declared.demand.Asked.{Asked}
 use Rattle.at_script.specs.declared.demand.Call.{Call}
 use Rattle.at_script.specs.Parts.{Parts}
-use Rattle.at_script.specs.Execution.{Frame, State, Next, ended, silent, says, asks, and_then, bound_to, variable_value, operand_value, given_value, target_value, as_object, target_object, read_of, target_read, other_object, asked_by, returned, dropped, let_next, return_next, finish_next, ask_next, statement_next, begun_in, frame_next, frames_next, called, call_next, pending_next, next_of}
+use Rattle.at_script.specs.Execution.{Frame, State, Next, silent, says, and_then, bound_to, operand_value, given_value, target_value, as_object, target_object, read_of, target_read, other_object, asked_by, returned, let_next, return_next, finish_next, ask_next, statement_next, begun_in, frame_next, frames_next, called, call_next, pending_next, next_of}
 
 -- a local line that a statement brings about
 abbrev pub IsOwn : local.Local → Type 0

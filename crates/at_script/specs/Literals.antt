@@ -1,5 +1,5 @@
 -- Values as a script writes them.
-use Rattle.std.specs.Prelude.{ℕ, ◌==◌, ◌&&◌, List, [], ◌∷◌, length, Option, Some, None, if◌then◌else◌, codes, bytes_eq, option_and_then, ℤ}
+use Rattle.std.specs.Prelude.{ℕ, ◌==◌, ◌&&◌, List, length, Option, Some, None, if◌then◌else◌, codes, bytes_eq, option_and_then, ℤ}
 use Rattle.std.specs.Option.{option_map, option_copied}
 use Rattle.std.specs.List.{slice_split}
 use Rattle.at_script.specs.declared.literal.Literal.{Literal}

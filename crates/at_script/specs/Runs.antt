@@ -1,5 +1,5 @@
 -- Which lists of lines are a run of a script: those of `main`, then those of each thread, then those of `finally`.
-use Rattle.std.specs.Prelude.{◌≡◌, ℕ, zero, suc, List, [], ◌∷◌, ◌++◌, length, replicate, slice_get, Option, Some, None}
+use Rattle.std.specs.Prelude.{◌≡◌, ℕ, zero, suc, List, [], ◌∷◌, ◌++◌, length, replicate, slice_get, Some, None}
 use Rattle.at_world.specs.declared.line.Line.{Line}
 use Rattle.at_world.specs.declared.line.What as what
 use Rattle.at_world.specs.Lines.{main_thread, finally_thread}

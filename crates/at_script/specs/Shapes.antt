@@ -4,7 +4,6 @@ use Rattle.std.specs.Option.{option_map}
 use Rattle.std.specs.List.{slice_split}
 use Rattle.at_script.specs.declared.shape.Shape.{Shape}
 use Rattle.at_script.specs.declared.shape.Shape.TheVariants.{Class, Put, Cut, New, Mro, Set, Del, Get, Super, Special, ClassOf}
-use Rattle.at_script.specs.declared.literal.Literal.{Literal}
 use Rattle.at_script.specs.Pieces.{pieces_left, one_of, two_of}
 use Rattle.at_script.specs.Words.{identifier_of, attribute_name_of, class_word_of}
 use Rattle.at_script.specs.Literals.{◌>>=◌, Written, written, value_of}

@@ -1,13 +1,10 @@
 -- Where a thread of the code stands, and what its demands are.
-use Rattle.std.specs.Prelude.{◌≡◌, ◌<◌, ◌∷◌, List, length, map}
+use Rattle.std.specs.Prelude.{◌∷◌, map}
 use Rattle.at_script.specs.declared.demand.Demand as demand
 use Rattle.at_script.specs.declared.demand.Demand.TheVariants as demands
-use Rattle.at_script.specs.declared.demand.Use as used
-use Rattle.at_script.specs.declared.demand.Use.TheVariants as uses
 use Rattle.at_script.specs.declared.thread.Frame as frames
 use Rattle.at_script.specs.declared.thread.Thread as threads
-use Rattle.at_script.specs.Parts.{Parts}
-use Rattle.at_script.specs.Execution.{Frame, State, Next, ended, silent, says, asks, next_of}
+use Rattle.at_script.specs.Execution.{Frame, State, Next, ended, silent, says, asks}
 
 abbrev pub frame_of : frames.Frame → Frame
 frame_of f = record { self_arg = f.self_arg; other = f.other; arg = f.arg; rest = f.rest.now; opened = f.opened; gives = f.gives }

@@ -1,4 +1,4 @@
-use Rattle.std.proofs.Common.{ℕ, List, Some, ◌≡◌, slice_get, arith}
+use Rattle.std.proofs.Common.{arith}
 use Rattle.at_script.proofs.Numbering.{number_at}
 use Rattle.at_script.proofs.laws.numbers_have_no_gap.Goals as goal
 

@@ -1,5 +1,4 @@
 use Rattle.at_script.proofs.Saying.{next_says}
-use Rattle.at_script.proofs.Alone.{alone_run, numbered_more, numbered_length}
 use Rattle.at_script.proofs.laws.own_lines_name_no_limit.Goals as goal
 
 pub returns : goal.returns
