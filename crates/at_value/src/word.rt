@@ -1,5 +1,5 @@
 //! Values as words of 64 bits, for tables of words that several threads share.
-ghost use Rattle.std.specs.Prelude.{◌≡◌, ◌<◌, ◌+◌, ◌-◌, ◌*◌, ◌/◌, ◌%◌, ◌^◌, ◌≤◌, ◌≢◌, IfSome, IfNone, ◌↔◌, option_map};
+ghost use Rattle.std.specs.Prelude.{◌≡◌, ◌<◌, ◌+◌, ◌-◌, ◌*◌, ◌/◌, ◌%◌, ◌^◌, ◌≤◌, ◌≢◌, Some, IfSome, IfNone, ◌↔◌, option_map};
 ghost use Rattle.at_value.specs.declared.value.Value as values;
 ghost use Rattle.at_value.specs.declared.value.Value.TheVariants as value;
 ghost use Rattle.std.specs.Int.{w32, cast_signed};
@@ -135,7 +135,7 @@ fn int_at(n: u64) -> Option<Value>
     Some(Value::Int(bits.cast_signed()))
 }
 
-/// The value of one of the kinds up to that of texts.
+/// The value of a kind up to that of texts: nothing, an integer or a text.
 fn plain_value(kind: u64, rest: u64) -> Option<Value>
     requires first { 1 ≤ kind }
     requires last { kind ≤ 3 }
@@ -149,17 +149,17 @@ fn plain_value(kind: u64, rest: u64) -> Option<Value>
     }
 }
 
-/// The value of one of the kinds that have a function.
-fn function_value(kind: u64, rest: u64) -> Option<Value>
+/// The value of this kind, one of the three that have a function.
+fn function_value(kind: u64, f: Func) -> Value
     requires first { 4 ≤ kind }
     requires last { kind ≤ 7 }
     requires one { kind ≢ 5 }
-    ensures { result ≡ value_at_kind kind rest }
+    ensures { Some result ≡ value_at_kind kind f }
 {
     match kind {
-        FUNC => Some(Value::Func(func_at(rest)?)),
-        STATIC => Some(Value::Static(func_at(rest)?)),
-        _ => Some(Value::ClassM(func_at(rest)?)),
+        FUNC => Value::Func(f),
+        STATIC => Value::Static(f),
+        _ => Value::ClassM(f),
     }
 }
 
@@ -175,15 +175,15 @@ fn instance_value(kind: u64, rest: u64) -> Option<Value>
     }
 }
 
-/// The value of this kind with this number above the kind, and none exactly where there is no such value. The kinds are told
-/// apart a few at a time, so that the built code needs no table of them.
+/// The value of this kind with this number above the kind, and none exactly where there is no such value. The kinds are
+/// told apart a few at a time, so that the built code needs no table of them.
 fn value_of_kind(kind: u64, rest: u64) -> Option<Value>
     ensures { result ≡ value_at_kind kind rest }
 {
     match kind {
         NOTHING..=TEXT => plain_value(kind, rest),
         PROP => Some(Value::Prop(Prop::of_number(rest)?)),
-        FUNC..=CLASS_METHOD => function_value(kind, rest),
+        FUNC..=CLASS_METHOD => Some(function_value(kind, func_at(rest)?)),
         CLASS..=OBJ => instance_value(kind, rest),
         _ => None,
     }
