@@ -7,15 +7,24 @@ use crate::{Block, Cause, Operand, ReadFault, Script, Stmt, Target, read};
 use at_value::{Bases, Class, Name, Value};
 use std::alloc::Global;
 use std::mem::size_of;
+use std::process::Abort;
 use std::test::Fail;
 
-/// The script of the bytes.
-fn script_of(alloc: Global, bytes: &[u8]) -> Result<Script, Fail> {
-    Ok(read(alloc, bytes)?)
+/// The script of the text.
+fn script_of(alloc: Global, text: &str) -> Result<Script, Fail> {
+    Ok(read(alloc, text.as_bytes())?)
 }
 
 fn has_main(script: &Script, statements: &[Stmt]) -> bool {
     script.block(Block::Main) == Some(statements)
+}
+
+fn class() -> Class {
+    Class::new(1).unwrap()
+}
+
+fn name() -> Name {
+    Name::new(5).unwrap()
 }
 
 /// Whether the bytes are a script; if not, they are refused as all such are.
@@ -40,298 +49,326 @@ fn accepts(alloc: Global, line: &[u8]) -> Result<bool, Fail> {
     is_script(alloc, &bytes)
 }
 
+/// Whether each text is a script is as its row says.
+fn assert_scripts<R: Abort>(rt: &R, alloc: Global, rows: &[(&str, bool)]) -> Result<(), Fail> {
+    for (text, wanted) in rows {
+        assert!(rt; is_script(alloc, text.as_bytes())? == *wanted, "{text:?}");
+    }
+    Ok(())
+}
+
+/// Whether each line may stand behind `class C` and `new a C` is as its row says.
+fn assert_lines<R: Abort>(rt: &R, alloc: Global, rows: &[(&str, bool)]) -> Result<(), Fail> {
+    for (line, wanted) in rows {
+        assert!(rt; accepts(alloc, line.as_bytes())? == *wanted, "{line:?}");
+    }
+    Ok(())
+}
+
 #[test]
 fn statements_are_small(rt: HostRuntime) {
     assert!(rt; size_of::<Stmt>() <= 28);
 }
 
-const WHOLE_SCRIPTS: [(&[u8], bool); 31] = [
-    (b"attrs 1\nmain\nend\n", true),
-    (b"attrs 1\nmain\nend", true),
-    (b"attrs 1\nmain\nend\n\n", true),
-    (b"attrs 1\nmain\nend\nend\n", false),
-    (b"attrs 1\nmain\nend\n#\n", true),
-    (b"attrs 1\nmain\n", false),
-    (b"attrs 1\nmain", false),
-    (b"attrs 1\nend\n", false),
-    (b"attrs 2\nmain\nend\n", false),
-    (b"attrs  1\nmain\nend\n", true),
-    (b" attrs\t1 \nmain\nend\n", true),
-    (b"attrs 1 1\nmain\nend\n", false),
-    (b"attrs1\nmain\nend\n", false),
-    (b"attrs 1\n\nmain\nend\n", true),
-    (b"attrs 1\nmain \nend\n", true),
-    (b"attrs 1\r\nmain\r\nend\r\n", true),
-    (b"attrs 1\nmain main\nend\n", false),
-    (b"attrs 1\nmain\nend end\n", false),
+const WHOLE_SCRIPTS: [(&str, bool); 30] = [
+    ("attrs 1\nmain\nend\n", true),
+    ("attrs 1\nmain\nend", true),
+    ("attrs 1\nmain\nend\n\n", true),
+    ("attrs 1\nmain\nend\nend\n", false),
+    ("attrs 1\nmain\nend\n#\n", true),
+    ("attrs 1\nmain\n", false),
+    ("attrs 1\nmain", false),
+    ("attrs 1\nend\n", false),
+    ("attrs 2\nmain\nend\n", false),
+    ("attrs  1\nmain\nend\n", true),
+    (" attrs\t1 \nmain\nend\n", true),
+    ("attrs 1 1\nmain\nend\n", false),
+    ("attrs1\nmain\nend\n", false),
+    ("attrs 1\n\nmain\nend\n", true),
+    ("attrs 1\nmain \nend\n", true),
+    ("attrs 1\r\nmain\r\nend\r\n", true),
+    ("attrs 1\nmain main\nend\n", false),
+    ("attrs 1\nmain\nend end\n", false),
     (
-        b"attrs 1\n# attrs\n \t\r\n  #main\nmain\n#class C\nend\n",
+        "attrs 1\n# attrs\n \t\r\n  #main\nmain\n#class C\nend\n",
         true,
     ),
-    (b"\nattrs 1\nmain\nend\n", false),
-    (b"# attrs 1\nattrs 1\nmain\nend\n", false),
-    (b"#attrs 1\nmain\nend\n", false),
-    (b"attrs 1\nmain\n# \x7e\nend\n", true),
-    (b"attrs 1\nmain\n# \x7f\nend\n", false),
-    (b"attrs 1\nmain\n# \x1f\nend\n", false),
-    (b"attrs 1\nmain\n# \x80\nend\n", false),
-    (b"attrs 1\nmain\n\x0b\nend\n", false),
-    (b"attrs 1\nmain\n\x00\nend\n", false),
-    (b"attrs 1\nmain\nclass C # D\nend\n", false),
-    (b"\n", false),
-    (b"", false),
+    ("\nattrs 1\nmain\nend\n", false),
+    ("# attrs 1\nattrs 1\nmain\nend\n", false),
+    ("#attrs 1\nmain\nend\n", false),
+    ("attrs 1\nmain\n# \x7e\nend\n", true),
+    ("attrs 1\nmain\n# \x7f\nend\n", false),
+    ("attrs 1\nmain\n# \x1f\nend\n", false),
+    ("attrs 1\nmain\n\x0b\nend\n", false),
+    ("attrs 1\nmain\n\x00\nend\n", false),
+    ("attrs 1\nmain\nclass C # D\nend\n", false),
+    ("\n", false),
+    ("", false),
 ];
 
 #[test]
 fn whole_scripts(rt: HostRuntime) -> Result<(), Fail> {
-    for (bytes, wanted) in WHOLE_SCRIPTS {
-        assert!(rt; is_script(rt.alloc(), bytes)? == wanted, "{bytes:?}");
-    }
-    Ok(())
+    assert_scripts(&rt, rt.alloc(), &WHOLE_SCRIPTS)
 }
 
 #[test]
-fn a_first_path(rt: HostRuntime) -> Result<(), Fail> {
-    let text = b"attrs 1\nmain\nclass C\nput C.x 1\nnew a C\nget a.x\nget a.x\nend\n";
-    assert_eq!(rt; text.len(), 59);
-    let script = script_of(rt.alloc(), text)?;
-    let class = Class::new(1).ok_or("class")?;
-    let name = Name::new(5).ok_or("name")?;
-    let statements = [
+fn bytes_beyond_text(rt: HostRuntime) -> Result<(), Fail> {
+    assert!(rt; !is_script(rt.alloc(), b"attrs 1\nmain\n# \x80\nend\n")?);
+    assert!(rt; !accepts(rt.alloc(), b"get a.\x80")?);
+    Ok(())
+}
+
+const FIRST_PATH: &str = "attrs 1\nmain\nclass C\nput C.x 1\nnew a C\nget a.x\nget a.x\nend\n";
+
+fn first_path_statements(class: Class, name: Name) -> [Stmt; 5] {
+    [
         Stmt::Class(class, Bases::only(Class::object())),
         Stmt::Put(class, name, Operand::Value(Value::Int(1))),
         Stmt::New(0, class, None),
         Stmt::Get(Target::Var(0), name),
         Stmt::Get(Target::Var(0), name),
-    ];
-    assert!(rt; has_main(&script, &statements));
+    ]
+}
+
+/// The statements of `main` are these.
+fn assert_statements<R: Abort>(rt: &R, script: &Script) {
+    assert!(rt; has_main(script, &first_path_statements(class(), name())));
+}
+
+fn assert_texts<R: Abort>(rt: &R, script: &Script) {
     assert_eq!(rt; script.class_text(Class::object()), Some("object"));
-    assert_eq!(rt; script.class_text(class), Some("C"));
+    assert_eq!(rt; script.class_text(class()), Some("C"));
     assert_eq!(rt; script.name_text(Name::init()), Some("__init__"));
-    assert_eq!(rt; script.name_text(name), Some("x"));
+    assert_eq!(rt; script.name_text(name()), Some("x"));
     assert_eq!(rt; script.var_text(0), Some("a"));
     assert_eq!(rt; script.var_text(1), None);
-    assert_eq!(rt; (script.budget(), script.threads()), (10_000, 0));
-    assert_eq!(rt;
-        (
-            script.classes(),
-            script.names(),
-            script.vars(),
-            script.funcs()
-        ),
-        (2, 6, 1, 0)
-    );
+}
+
+/// How many classes, names, variables and functions there are.
+fn counts(script: &Script) -> [usize; 4] {
+    [
+        script.classes(),
+        script.names(),
+        script.vars(),
+        script.funcs(),
+    ]
+}
+
+fn assert_counts<R: Abort>(rt: &R, script: &Script) {
+    assert_eq!(rt; script.budget(), 10_000);
+    assert_eq!(rt; script.threads(), 0);
+    assert_eq!(rt; counts(script), [2, 6, 1, 0]);
+}
+
+fn assert_first_path<R: Abort>(rt: &R, script: &Script) {
+    assert_statements(rt, script);
+    assert_texts(rt, script);
+    assert_counts(rt, script);
+}
+
+#[test]
+fn a_first_path(rt: HostRuntime) -> Result<(), Fail> {
+    assert_eq!(rt; FIRST_PATH.len(), 59);
+    let script = script_of(rt.alloc(), FIRST_PATH)?;
+    assert_first_path(&rt, &script);
     Ok(())
 }
 
-const STATEMENTS: [(&[u8], bool); 55] = [
-    (b"cut C.x", true),
-    (b"cut object.x", true),
-    (b"cut a.x", false),
-    (b"cut C.x 1", false),
-    (b"cut C", false),
-    (b"del a.x", true),
-    (b"del b.x", true),
-    (b"del C.x", true),
-    (b"del self.x", false),
-    (b"del a.x 1", false),
-    (b"super C a.x", true),
-    (b"super C object.x", true),
-    (b"super a C.x", false),
-    (b"super D a.x", false),
-    (b"super C a", false),
-    (b"super a.x", false),
-    (b"special a.__len__", true),
-    (b"special C.x", true),
-    (b"special it.x", false),
-    (b"special a", false),
-    (b"classof a", true),
-    (b"classof C", true),
-    (b"classof arg", false),
-    (b"classof a.x", false),
-    (b"classof", false),
-    (b"mro C", true),
-    (b"mro object", true),
-    (b"mro a", false),
-    (b"mro C C", false),
-    (b"new b C none", true),
-    (b"new b C b", true),
-    (b"new b C \"x\"", true),
-    (b"new b C 1 2", false),
-    (b"new b C it", false),
-    (b"bases C", false),
-    (b"turn a C", false),
-    (b"share a b", false),
-    (b"call a.x", false),
-    (b"callsuper C a.x", false),
-    (b"let b 1", false),
-    (b"return none", false),
-    (b"begin a", false),
-    (b"finish", false),
-    (b"checkpoint", false),
-    (b"get a.__get__", true),
-    (b"get a.__getitem__", true),
-    (b"get a.__dict__", false),
-    (b"get a.__", false),
-    (b"get a.____", false),
-    (b"get a.__x", true),
-    (b"get a.x__", true),
-    (b"get a.none", false),
-    (b"get a.object", false),
-    (b"get a.", false),
-    (b"get .x", false),
+const STATEMENTS: [(&str, bool); 55] = [
+    ("cut C.x", true),
+    ("cut object.x", true),
+    ("cut a.x", false),
+    ("cut C.x 1", false),
+    ("cut C", false),
+    ("del a.x", true),
+    ("del b.x", true),
+    ("del C.x", true),
+    ("del self.x", false),
+    ("del a.x 1", false),
+    ("super C a.x", true),
+    ("super C object.x", true),
+    ("super a C.x", false),
+    ("super D a.x", false),
+    ("super C a", false),
+    ("super a.x", false),
+    ("special a.__len__", true),
+    ("special C.x", true),
+    ("special it.x", false),
+    ("special a", false),
+    ("classof a", true),
+    ("classof C", true),
+    ("classof arg", false),
+    ("classof a.x", false),
+    ("classof", false),
+    ("mro C", true),
+    ("mro object", true),
+    ("mro a", false),
+    ("mro C C", false),
+    ("new b C none", true),
+    ("new b C b", true),
+    ("new b C \"x\"", true),
+    ("new b C 1 2", false),
+    ("new b C it", false),
+    ("bases C", false),
+    ("turn a C", false),
+    ("share a b", false),
+    ("call a.x", false),
+    ("callsuper C a.x", false),
+    ("let b 1", false),
+    ("return none", false),
+    ("begin a", false),
+    ("finish", false),
+    ("checkpoint", false),
+    ("get a.__get__", true),
+    ("get a.__getitem__", true),
+    ("get a.__dict__", false),
+    ("get a.__", false),
+    ("get a.____", false),
+    ("get a.__x", true),
+    ("get a.x__", true),
+    ("get a.none", false),
+    ("get a.object", false),
+    ("get a.", false),
+    ("get .x", false),
 ];
 
 #[test]
 fn statements(rt: HostRuntime) -> Result<(), Fail> {
-    for (line, wanted) in STATEMENTS {
-        assert_eq!(rt; accepts(rt.alloc(), line)?, wanted, "{line:?}");
-    }
-    Ok(())
+    assert_lines(&rt, rt.alloc(), &STATEMENTS)
 }
 
-const VALUES: [(&[u8], bool); 32] = [
-    (b"put C.x \"text\"", true),
-    (b"put C.x \"mro\"", true),
-    (b"put C.x \"__class__\"", true),
-    (b"put C.x \"none\"", false),
-    (b"put C.x \"\"", false),
-    (b"put C.x \"a b\"", false),
-    (b"put C.x \"a", false),
-    (b"put C.x a\"", false),
-    (b"put C.x \"a\"\"", false),
-    (b"put C.x \"a\"b", false),
-    (b"put C.x \"1\"", false),
-    (b"put C.x C", true),
-    (b"put C.x object", true),
-    (b"put C.x b", true),
-    (b"put C.x self", false),
-    (b"put C.x arg", false),
-    (b"put C.x other", false),
-    (b"put C.x it", false),
-    (b"put C.x static:f", false),
-    (b"put C.x static:C", false),
-    (b"put C.x static", true),
-    (b"put C.x static:", false),
-    (b"put C.x classm:a", false),
-    (b"put C.x prop:-,-,-", true),
-    (b"put C.x prop:f,-,-", false),
-    (b"put C.x prop:-,-", false),
-    (b"put C.x prop:-,-,-,-", false),
-    (b"put C.x prop:-,,-", false),
-    (b"put C.x prop:-,-,1", false),
-    (b"put C.x prop::-,-,-", false),
-    (b"put C.x -17", true),
-    (b"put C.x 1.5", false),
+const VALUES: [(&str, bool); 32] = [
+    ("put C.x \"text\"", true),
+    ("put C.x \"mro\"", true),
+    ("put C.x \"__class__\"", true),
+    ("put C.x \"none\"", false),
+    ("put C.x \"\"", false),
+    ("put C.x \"a b\"", false),
+    ("put C.x \"a", false),
+    ("put C.x a\"", false),
+    ("put C.x \"a\"\"", false),
+    ("put C.x \"a\"b", false),
+    ("put C.x \"1\"", false),
+    ("put C.x C", true),
+    ("put C.x object", true),
+    ("put C.x b", true),
+    ("put C.x self", false),
+    ("put C.x arg", false),
+    ("put C.x other", false),
+    ("put C.x it", false),
+    ("put C.x static:f", false),
+    ("put C.x static:C", false),
+    ("put C.x static", true),
+    ("put C.x static:", false),
+    ("put C.x classm:a", false),
+    ("put C.x prop:-,-,-", true),
+    ("put C.x prop:f,-,-", false),
+    ("put C.x prop:-,-", false),
+    ("put C.x prop:-,-,-,-", false),
+    ("put C.x prop:-,,-", false),
+    ("put C.x prop:-,-,1", false),
+    ("put C.x prop::-,-,-", false),
+    ("put C.x -17", true),
+    ("put C.x 1.5", false),
 ];
 
 #[test]
 fn values(rt: HostRuntime) -> Result<(), Fail> {
-    for (line, wanted) in VALUES {
-        assert_eq!(rt; accepts(rt.alloc(), line)?, wanted, "{line:?}");
-    }
-    Ok(())
+    assert_lines(&rt, rt.alloc(), &VALUES)
 }
 
-const FUNCTIONS: [(&[u8], bool); 20] = [
-    (b"attrs 1\nfunc f\nend\nmain\nend\n", true),
-    (b"attrs 1\n\nfunc f # g\nend\nmain\nend\n", false),
-    (b"attrs 1\nfunc f\n#\n\nend\nfunc g\nend\nmain\nend\n", true),
-    (b"attrs 1\nfunc f\nend\nfunc f\nend\nmain\nend\n", false),
-    (b"attrs 1\nfunc f\nmain\nend\n", false),
-    (b"attrs 1\nfunc f\nend\nend\nmain\nend\n", false),
-    (b"attrs 1\nmain\nend\nfunc f\nend\n", false),
-    (b"attrs 1\nmain\nfunc f\nend\nend\n", false),
-    (b"attrs 1\nfunc f\nclass C\nend\nmain\nend\n", false),
-    (b"attrs 1\nfunc\nend\nmain\nend\n", false),
-    (b"attrs 1\nfunc object\nend\nmain\nend\n", false),
-    (b"attrs 1\nfunc 1\nend\nmain\nend\n", false),
-    (b"attrs 1\nfunc f\nend\nmain\nclass f\nend\n", false),
-    (b"attrs 1\nfunc f\nend\nmain\nnew f object\nend\n", false),
-    (b"attrs 1\nfunc f\nend\nmain\nget f.x\nend\n", false),
-    (b"attrs 1\nfunc f\nend\nmain\nput object.x f\nend\n", true),
+const FUNCTIONS: [(&str, bool); 20] = [
+    ("attrs 1\nfunc f\nend\nmain\nend\n", true),
+    ("attrs 1\n\nfunc f # g\nend\nmain\nend\n", false),
+    ("attrs 1\nfunc f\n#\n\nend\nfunc g\nend\nmain\nend\n", true),
+    ("attrs 1\nfunc f\nend\nfunc f\nend\nmain\nend\n", false),
+    ("attrs 1\nfunc f\nmain\nend\n", false),
+    ("attrs 1\nfunc f\nend\nend\nmain\nend\n", false),
+    ("attrs 1\nmain\nend\nfunc f\nend\n", false),
+    ("attrs 1\nmain\nfunc f\nend\nend\n", false),
+    ("attrs 1\nfunc f\nclass C\nend\nmain\nend\n", false),
+    ("attrs 1\nfunc\nend\nmain\nend\n", false),
+    ("attrs 1\nfunc object\nend\nmain\nend\n", false),
+    ("attrs 1\nfunc 1\nend\nmain\nend\n", false),
+    ("attrs 1\nfunc f\nend\nmain\nclass f\nend\n", false),
+    ("attrs 1\nfunc f\nend\nmain\nnew f object\nend\n", false),
+    ("attrs 1\nfunc f\nend\nmain\nget f.x\nend\n", false),
+    ("attrs 1\nfunc f\nend\nmain\nput object.x f\nend\n", true),
     (
-        b"attrs 1\nfunc f\nend\nmain\nput object.x static:f\nend\n",
+        "attrs 1\nfunc f\nend\nmain\nput object.x static:f\nend\n",
         true,
     ),
     (
-        b"attrs 1\nfunc f\nend\nmain\nput object.x static:g\nend\n",
+        "attrs 1\nfunc f\nend\nmain\nput object.x static:g\nend\n",
         false,
     ),
     (
-        b"attrs 1\nfunc f\nend\nmain\nput object.x prop:f,-,f\nend\n",
+        "attrs 1\nfunc f\nend\nmain\nput object.x prop:f,-,f\nend\n",
         true,
     ),
-    (b"attrs 1\nfunc f\nend\nend\n", false),
+    ("attrs 1\nfunc f\nend\nend\n", false),
 ];
 
 #[test]
 fn functions(rt: HostRuntime) -> Result<(), Fail> {
-    for (bytes, wanted) in FUNCTIONS {
-        assert!(rt; is_script(rt.alloc(), bytes)? == wanted, "{bytes:?}");
-    }
-    Ok(())
+    assert_scripts(&rt, rt.alloc(), &FUNCTIONS)
 }
 
-const LINES: [(&[u8], bool); 52] = [
-    (b"class D C", true),
-    (b"class D E\nclass E", true),
-    (b"class C", true),
-    (b"class D object", true),
-    (b"class D C C", true),
-    (b"class D C C C C C C C C", true),
-    (b"class D C C C C C C C C C", false),
-    (b"class", false),
-    (b"class object", false),
-    (b"class none", false),
-    (b"class 1", false),
-    (b"class D Unknown", false),
-    (b"class D a", false),
-    (b"class D ", true),
-    (b"class  D", true),
-    (b" class D", true),
-    (b"\tclass D", true),
-    (b"class D\tC\r", true),
-    (b"", true),
-    (b"new b C", true),
-    (b"new b object", true),
-    (b"new a D\nclass D", true),
-    (b"new b Unknown", false),
-    (b"new C C", false),
-    (b"new self C", false),
-    (b"new b", false),
-    (b"new b C 1", true),
-    (b"put C.x none", true),
-    (b"put object.x 0", true),
-    (b"put C.x 2147483647", true),
-    (b"put C.x 2147483648", false),
-    (b"put C.x -2147483648", true),
-    (b"put C.x -2147483649", false),
-    (b"put C.x -0", false),
-    (b"put C.x 007", false),
-    (b"put C.x +1", false),
-    (b"put C.x -", false),
-    (b"put C.x a", true),
-    (b"put a.x 1", false),
-    (b"put C.x", false),
-    (b"set a.x -17", true),
-    (b"set b.x 1", true),
-    (b"set C.x 1", true),
-    (b"set a.x 1 2", false),
-    (b"get a.aaaaaaaaaaaaaaaaaaaaaaaaaaaaaaaa", true),
-    (b"get a.aaaaaaaaaaaaaaaaaaaaaaaaaaaaaaaaa", false),
-    (b"get C.x", true),
-    (b"get a.mro", false),
-    (b"get a.__len__", true),
-    (b"get a._x1", true),
-    (b"get a.x.y", false),
-    (b"get a.\x80", false),
+const LINES: [(&str, bool); 51] = [
+    ("class D C", true),
+    ("class D E\nclass E", true),
+    ("class C", true),
+    ("class D object", true),
+    ("class D C C", true),
+    ("class D C C C C C C C C", true),
+    ("class D C C C C C C C C C", false),
+    ("class", false),
+    ("class object", false),
+    ("class none", false),
+    ("class 1", false),
+    ("class D Unknown", false),
+    ("class D a", false),
+    ("class D ", true),
+    ("class  D", true),
+    (" class D", true),
+    ("\tclass D", true),
+    ("class D\tC\r", true),
+    ("", true),
+    ("new b C", true),
+    ("new b object", true),
+    ("new a D\nclass D", true),
+    ("new b Unknown", false),
+    ("new C C", false),
+    ("new self C", false),
+    ("new b", false),
+    ("new b C 1", true),
+    ("put C.x none", true),
+    ("put object.x 0", true),
+    ("put C.x 2147483647", true),
+    ("put C.x 2147483648", false),
+    ("put C.x -2147483648", true),
+    ("put C.x -2147483649", false),
+    ("put C.x -0", false),
+    ("put C.x 007", false),
+    ("put C.x +1", false),
+    ("put C.x -", false),
+    ("put C.x a", true),
+    ("put a.x 1", false),
+    ("put C.x", false),
+    ("set a.x -17", true),
+    ("set b.x 1", true),
+    ("set C.x 1", true),
+    ("set a.x 1 2", false),
+    ("get a.aaaaaaaaaaaaaaaaaaaaaaaaaaaaaaaa", true),
+    ("get a.aaaaaaaaaaaaaaaaaaaaaaaaaaaaaaaaa", false),
+    ("get C.x", true),
+    ("get a.mro", false),
+    ("get a.__len__", true),
+    ("get a._x1", true),
+    ("get a.x.y", false),
 ];
 
 #[test]
 fn lines(rt: HostRuntime) -> Result<(), Fail> {
-    for (line, wanted) in LINES {
-        assert_eq!(rt; accepts(rt.alloc(), line)?, wanted, "{line:?}");
-    }
-    Ok(())
+    assert_lines(&rt, rt.alloc(), &LINES)
 }

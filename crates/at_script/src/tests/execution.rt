@@ -1,7 +1,7 @@
 //! A thread that executes the statements of a script, and the laws of executions.
-use super::script_of;
-use crate::{Block, Demand, Script, Thread, Use, laws};
-use at_value::{Bases, Class, Func, HookKind, Name, Obj, Op, Reply, Value};
+use super::{class, name, script_of};
+use crate::{Block, Demand, Script, Stmt, Thread, Use, laws};
+use at_value::{Bases, Class, Func, HookKind, Obj, Op, Reply, Value};
 use at_world::{LineOp, Local};
 use std::alloc::{AllocError, Global};
 use std::process::Abort;
@@ -19,16 +19,8 @@ enum Told {
     Declined,
 }
 
-fn class() -> Class {
-    Class::new(1).unwrap()
-}
-
 fn object() -> Obj {
     Obj::new(0).unwrap()
-}
-
-fn name() -> Name {
-    Name::new(5).unwrap()
 }
 
 fn function() -> Value {
@@ -64,18 +56,17 @@ fn answer(thread: &mut Thread<'_>, demand: &Demand, told: Told) {
     }
 }
 
-/// Compares what a thread demands, one thing after another.
+/// Compares what a thread demands next, and answers it.
 fn demands<'a, R: Abort>(
     rt: &R,
     thread: &mut Thread<'a>,
     script: &'a Script,
-    steps: &[(Demand, Told)],
+    wanted: &Demand,
+    told: Told,
 ) {
-    for (wanted, told) in steps {
-        let demand = thread.next(script);
-        assert!(rt; demand == *wanted, "{wanted:?}");
-        answer(thread, &demand, *told);
-    }
+    let demand = thread.next(script);
+    assert!(rt; demand == *wanted, "{wanted:?}");
+    answer(thread, &demand, told);
 }
 
 /// Whether the first variable has the object.
@@ -86,74 +77,99 @@ fn is_bound_to_the_object(variables: &[Option<Value>]) -> bool {
     }
 }
 
-/// A thread at the begin of `main`.
-fn main_of<'a>(alloc: Global, script: &'a Script) -> Result<Thread<'a>, AllocError> {
-    let statements = script.block(Block::Main).unwrap_or(&[]);
-    Thread::new(alloc, statements, vec![in alloc; None; script.vars()]?)
+fn unbound(alloc: Global, script: &Script) -> Result<Vec<Option<Value>>, AllocError> {
+    vec![in alloc; None; script.vars()]
 }
 
-#[test]
-fn an_object_is_bound_before_its_init_runs(rt: HostRuntime) -> Result<(), Fail> {
-    let bytes = b"attrs 1\nfunc f\nend\nmain\nclass C\nput C.x f\nnew a C 7\nend\n";
-    let script = script_of(rt.alloc(), bytes)?;
-    let steps = [
-        (
-            asks(
-                Op::NewClass(class(), Bases::only(Class::object())),
-                Use::Ignore,
-            ),
-            Told::Done,
-        ),
-        (
-            asks(Op::TypeSet(class(), name(), function()), Use::Ignore),
-            Told::Done,
-        ),
-        (
-            asks(Op::New(class()), Use::Bind(0, Value::Int(7))),
-            Told::Made,
-        ),
+fn statements_of_main(script: &Script) -> &[Stmt] {
+    script.block(Block::Main).unwrap_or(&[])
+}
+
+/// A thread at the begin of `main`.
+fn main_of(alloc: Global, script: &Script) -> Result<Thread<'_>, AllocError> {
+    let variables = unbound(alloc, script)?;
+    Thread::new(alloc, statements_of_main(script), variables)
+}
+
+/// Executes `main` with these steps, after which the first variable has the object.
+fn execute<R: Abort>(
+    rt: &R,
+    alloc: Global,
+    script: &Script,
+    steps: &[(Demand, Told)],
+) -> Result<(), Fail> {
+    let mut thread = main_of(alloc, script)?;
+    for (wanted, told) in steps {
+        demands(rt, &mut thread, script, wanted, *told);
+    }
+    assert!(rt; is_bound_to_the_object(thread.variables()));
+    Ok(())
+}
+
+/// Executes `main` of the script of this text.
+fn execute_text<R: Abort>(
+    rt: &R,
+    alloc: Global,
+    text: &str,
+    steps: &[(Demand, Told)],
+) -> Result<(), Fail> {
+    let script = script_of(alloc, text)?;
+    execute(rt, alloc, &script, steps)
+}
+
+/// `class C`, which is the first statement of each script here.
+fn class_is_made() -> (Demand, Told) {
+    let made = Op::NewClass(class(), Bases::only(Class::object()));
+    (asks(made, Use::Ignore), Told::Done)
+}
+
+const CALLING: &str = "attrs 1\nfunc f\nend\nmain\nclass C\nput C.x f\nnew a C 7\nend\n";
+
+fn calling_steps() -> [(Demand, Told); 8] {
+    let put = Op::TypeSet(class(), name(), function());
+    let bind = Use::Bind(0, Value::Int(7));
+    [
+        class_is_made(),
+        (asks(put, Use::Ignore), Told::Done),
+        (asks(Op::New(class()), bind), Told::Made),
         // The function begins and ends, and then `main` ends.
         (Demand::Silent, Told::Done),
         (Demand::Silent, Told::Done),
         (Demand::Silent, Told::Done),
         (Demand::Ended, Told::Done),
         (Demand::Ended, Told::Done),
-    ];
-    let mut thread = main_of(rt.alloc(), &script)?;
-    demands(&rt, &mut thread, &script, &steps);
-    assert!(rt; is_bound_to_the_object(thread.variables()));
-    Ok(())
+    ]
+}
+
+#[test]
+fn an_object_is_bound_before_its_init_runs(rt: HostRuntime) -> Result<(), Fail> {
+    execute_text(&rt, rt.alloc(), CALLING, &calling_steps())
+}
+
+const SAYING: &str =
+    "attrs 1\nmain\nclass C\nnew a C\nset b.x 1\nget a.x\nset C.x 1\ndel a.x\nend\n";
+
+fn saying_steps() -> [(Demand, Told); 11] {
+    let bind = Use::Bind(0, Value::Nothing);
+    let (get, del) = (Op::Get(object(), name()), Op::Del(object(), name()));
+    [
+        class_is_made(),
+        (asks(Op::New(class()), bind), Told::Made),
+        (Demand::Silent, Told::Done),
+        (Demand::Silent, Told::Done),
+        (Demand::Says(Local::Unbound(1)), Told::Done),
+        (asks(get, Use::Read), Told::Hook),
+        (Demand::Says(Local::NotCallable), Told::Done),
+        (Demand::Says(Local::Kind), Told::Done),
+        (asks(del, Use::Write), Told::Declined),
+        (Demand::Silent, Told::Done),
+        (Demand::Ended, Told::Done),
+    ]
 }
 
 #[test]
 fn lines_that_are_no_operation(rt: HostRuntime) -> Result<(), Fail> {
-    let bytes = b"attrs 1\nmain\nclass C\nnew a C\nset b.x 1\nget a.x\nset C.x 1\ndel a.x\nend\n";
-    let script = script_of(rt.alloc(), bytes)?;
-    let steps = [
-        (
-            asks(
-                Op::NewClass(class(), Bases::only(Class::object())),
-                Use::Ignore,
-            ),
-            Told::Done,
-        ),
-        (
-            asks(Op::New(class()), Use::Bind(0, Value::Nothing)),
-            Told::Made,
-        ),
-        (Demand::Silent, Told::Done),
-        (Demand::Silent, Told::Done),
-        (Demand::Says(Local::Unbound(1)), Told::Done),
-        (asks(Op::Get(object(), name()), Use::Read), Told::Hook),
-        (Demand::Says(Local::NotCallable), Told::Done),
-        (Demand::Says(Local::Kind), Told::Done),
-        (asks(Op::Del(object(), name()), Use::Write), Told::Declined),
-        (Demand::Silent, Told::Done),
-        (Demand::Ended, Told::Done),
-    ];
-    let mut thread = main_of(rt.alloc(), &script)?;
-    demands(&rt, &mut thread, &script, &steps);
-    Ok(())
+    execute_text(&rt, rt.alloc(), SAYING, &saying_steps())
 }
 
 #[test]

@@ -60,18 +60,18 @@ fn script_of_lines(alloc: Global, limit: &Limit, lines: u32) -> Result<String, A
     Ok(text)
 }
 
+/// Whether so many lines are a script.
+fn fits(alloc: Global, limit: &Limit, lines: u32) -> Result<bool, Fail> {
+    let text = script_of_lines(alloc, limit, lines)?;
+    is_script(alloc, text.as_bytes())
+}
+
 #[test]
 fn limits(rt: HostRuntime) -> Result<(), Fail> {
     for limit in LIMITS {
         let most = u32::from(limit.most);
-        let fits = script_of_lines(rt.alloc(), &limit, most)?;
-        assert!(rt; is_script(rt.alloc(), fits.as_bytes())?, "{}", limit.before);
-        let exceeds = script_of_lines(rt.alloc(), &limit, most + 1)?;
-        assert!(rt;
-            !is_script(rt.alloc(), exceeds.as_bytes())?,
-            "{}",
-            limit.before
-        );
+        assert!(rt; fits(rt.alloc(), &limit, most)?, "{}", limit.before);
+        assert!(rt; !fits(rt.alloc(), &limit, most + 1)?, "{}", limit.before);
     }
     Ok(())
 }
