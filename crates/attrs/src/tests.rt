@@ -1,5 +1,4 @@
 //! The program end to end, over sources and sinks in memory: the text that it writes, and how it ends.
-ghost use Rattle.std.specs.Prelude.{◌<◌};
 
 mod changes;
 mod judging;
@@ -24,23 +23,125 @@ const FIRST: &str = "attrs 1\nmain\nclass C\nput C.x 1\nnew a C\nget a.x\nget a.
 const TRANSCRIPT: &str =
     "attrs transcript 1\nscript 59\nattrs 1\nmain\nclass C\nput C.x 1\nnew a C\nget a.x\nget a.x\nend\n\nlines 5\nm 1 1 locked class C object = done\nm 2 2 locked put C.x 1 = done\nm 3 3 locked new C = made #0\nm 4 3 locked get #0.x = value 1\nm 5 3 locked get #0.x = value 1\nfinal\nclass object = object\nclass C = C object\n.x 1\nobject #0 C\nend\n";
 
+const USAGE: &str = "usage: attrs run or plain or make SEED COUNT\n";
+
 const NOT_A_SCRIPT: Status = Status::Refused(0, Cause::Script);
 
-/// A source of the text, and the numbers of its calls that fail.
-fn source(alloc: Global, text: &str, most: usize, fails: Vec<u64>) -> Result<MemSource, AllocError>
-    requires { 0 < most }
-{
-    Ok(MemSource::new(Vec::from_slice(alloc, text.as_bytes())?, most, fails))
+/// How many bytes a source gives and a sink takes in one call, at least one, which call of each fails, and how many
+/// bytes the sink takes in all.
+#[derive(Clone, Copy)]
+struct Ends {
+    most_read: usize,
+    failing_read: Option<u64>,
+    room: usize,
+    most_written: usize,
+    failing_write: Option<u64>,
 }
 
-/// No call number.
-fn none(alloc: Global) -> Vec<u64> {
-    Vec::new(alloc)
+/// Ends that don't fail.
+const SOUND: Ends = Ends {
+    most_read: 1000,
+    failing_read: None,
+    room: 1_000_000,
+    most_written: 1000,
+    failing_write: None,
+};
+
+/// The numbers of the calls that fail.
+fn failing(alloc: Global, call: Option<u64>) -> Result<Vec<u64>, AllocError> {
+    let mut calls = Vec::new(alloc);
+    if let Some(number) = call {
+        calls.push(number)?;
+    }
+    Ok(calls)
 }
 
-/// One call number.
-fn call(alloc: Global, number: u64) -> Result<Vec<u64>, AllocError> {
-    Vec::from_slice(alloc, &[number])
+fn source(alloc: Global, bytes: &[u8], ends: &Ends) -> Result<MemSource, AllocError> {
+    let fails = failing(alloc, ends.failing_read)?;
+    let bytes = Vec::from_slice(alloc, bytes)?;
+    Ok(MemSource::new(bytes, ends.most_read.max(1), fails))
+}
+
+fn sink(alloc: Global, ends: &Ends) -> Result<MemSink, AllocError> {
+    let fails = failing(alloc, ends.failing_write)?;
+    MemSink::new(alloc, ends.room, ends.most_written.max(1), fails)
+}
+
+/// How a call ended, and the sink that it wrote to.
+#[derive(Drop)]
+struct Ended {
+    status: Status,
+    out: MemSink,
+}
+
+/// Runs a script on the plain data model.
+fn plain_over(alloc: Global, script: &[u8], ends: &Ends) -> Result<Ended, AllocError> {
+    let mut src = source(alloc, script, ends)?;
+    let mut out = sink(alloc, ends)?;
+    let status = plain_text(alloc, &mut src, &mut out);
+    Ok(Ended { status, out })
+}
+
+/// Runs a script on the plain data model. The call has to end so, with these bytes written.
+fn plain_ends<R: Abort>(
+    rt: &R,
+    alloc: Global,
+    script: &[u8],
+    ends: &Ends,
+    status: Status,
+    written: &[u8],
+) -> Result<(), AllocError> {
+    let ended = plain_over(alloc, script, ends)?;
+    assert_ended(rt, &ended, status, written);
+    Ok(())
+}
+
+fn owned(alloc: Global, words: &[&str]) -> Result<Vec<String>, AllocError> {
+    let mut owned = Vec::new(alloc);
+    for word in words {
+        owned.push(word.to_string(alloc)?)?;
+    }
+    Ok(owned)
+}
+
+/// Does what the words say, with a script to read.
+fn commanded<R: Wait + Threads + Sync>(
+    rt: &R,
+    alloc: Global,
+    words: &[String],
+    script: &str,
+) -> Result<Ended, AllocError> {
+    let mut src = source(alloc, script.as_bytes(), &SOUND)?;
+    let mut out = sink(alloc, &SOUND)?;
+    let status = attrs(rt, alloc, words, &mut src, &mut out, &OpenGate);
+    Ok(Ended { status, out })
+}
+
+/// Does what the words say, with a script to read. The call has to end so, with this text written.
+fn command_ends<R: Wait + Threads + Sync + Abort>(
+    rt: &R,
+    alloc: Global,
+    words: &[&str],
+    script: &str,
+    status: Status,
+    written: &str,
+) -> Result<(), AllocError> {
+    let words = owned(alloc, words)?;
+    let ended = commanded(rt, alloc, &words, script)?;
+    assert_ended(rt, &ended, status, written.as_bytes());
+    Ok(())
+}
+
+/// The call has ended so, and this is what it wrote.
+fn assert_ended<R: Abort>(rt: &R, ended: &Ended, status: Status, written: &[u8]) {
+    assert_eq!(rt; ended.status, status);
+    assert_eq!(rt; ended.out.bytes(), written);
+}
+
+/// The transcript that has this behind its script.
+fn transcript(alloc: Global, script: &str, told: &str) -> Result<String, AllocError> {
+    let length = script.len();
+    format!(in alloc; "attrs transcript 1\nscript {length}\n{script}\n{told}")
 }
 
 /// Runs the script by the word `run`. What is written has to be the script as transcripts begin, and then what is told.
@@ -49,44 +150,51 @@ fn transcribes<R: Wait + Threads + Sync + Abort>(
     alloc: Global,
     script: &str,
     told: &str,
-) -> Result<(), Fail> {
-    let words = vec![in alloc; format!(in alloc; "run")?]?;
-    let mut src = source(alloc, script, 1000, none(alloc))?;
-    let mut out = MemSink::new(alloc, 1_000_000, 1000, none(alloc))?;
-    let status = attrs(rt, alloc, &words, &mut src, &mut out, &OpenGate);
-    let wanted = format!(in alloc;
-        "attrs transcript 1\nscript {}\n{script}\n{told}",
-        script.len()
-    )?;
-    assert!(rt; status == Status::Good, "{script}");
-    assert_eq!(rt; out.bytes(), wanted.as_bytes(), "{script}");
+) -> Result<(), AllocError> {
+    let wanted = transcript(alloc, script, told)?;
+    command_ends(rt, alloc, &["run"], script, Status::Good, &wanted)
+}
+
+/// Runs each script, and compares what is told.
+fn all_transcribe<R: Wait + Threads + Sync + Abort>(
+    rt: &R,
+    alloc: Global,
+    rows: &[(&str, &str)],
+) -> Result<(), AllocError> {
+    for (script, told) in rows {
+        transcribes(rt, alloc, script, told)?;
+    }
     Ok(())
 }
 
+/// Scripts, what is written for them, and how the call ends.
+const TEXTS: [(&str, &str, Status); 5] = [
+    (
+        "attrs 1\nmain\nend\n",
+        "attrs transcript 1\nscript 17\nattrs 1\nmain\nend\n\nlines 0\nfinal\nclass object = object\nend\n",
+        Status::Good,
+    ),
+    (FIRST, TRANSCRIPT, Status::Good),
+    ("", "refused 0 script\n", NOT_A_SCRIPT),
+    ("attrs 2\nmain\nend\n", "refused 0 script\n", NOT_A_SCRIPT),
+    (
+        "attrs 1\nmain\nset a.\nend\n",
+        "refused 0 script\n",
+        NOT_A_SCRIPT,
+    ),
+];
+
 #[test]
 fn texts_and_statuses(rt: HostRuntime) -> Result<(), Fail> {
-    let rows = [
-        (
-            "attrs 1\nmain\nend\n",
-            "attrs transcript 1\nscript 17\nattrs 1\nmain\nend\n\nlines 0\nfinal\nclass object = object\nend\n",
-            Status::Good,
-        ),
-        (FIRST, TRANSCRIPT, Status::Good),
-        ("", "refused 0 script\n", NOT_A_SCRIPT),
-        ("attrs 2\nmain\nend\n", "refused 0 script\n", NOT_A_SCRIPT),
-        (
-            "attrs 1\nmain\nset a.\nend\n",
-            "refused 0 script\n",
-            NOT_A_SCRIPT,
-        ),
-    ];
-    for (script, wanted, status) in rows {
+    for (script, written, status) in TEXTS {
         for (most_read, most_written) in [(100_000, 100_000), (1, 100_000), (100_000, 1), (7, 3)] {
-            let mut src = source(rt.alloc(), script, most_read, none(rt.alloc()))?;
-            let mut out = MemSink::new(rt.alloc(), 1000, most_written, none(rt.alloc()))?;
-            let answer = plain_text(rt.alloc(), &mut src, &mut out);
-            assert!(rt; answer == status, "{script}");
-            assert_eq!(rt; out.bytes(), wanted.as_bytes(), "{script}");
+            let ends = Ends {
+                most_read,
+                most_written,
+                ..SOUND
+            };
+            let (script, written) = (script.as_bytes(), written.as_bytes());
+            plain_ends(&rt, rt.alloc(), script, &ends, status, written)?;
         }
     }
     Ok(())
@@ -96,88 +204,96 @@ fn texts_and_statuses(rt: HostRuntime) -> Result<(), Fail> {
 fn a_read_fault_writes_nothing(rt: HostRuntime) -> Result<(), Fail> {
     // 59 bytes come in nine reads of at most seven, and one more finds the end.
     for number in 0..10 {
-        let mut src = source(rt.alloc(), FIRST, 7, call(rt.alloc(), number)?)?;
-        let mut out = MemSink::new(rt.alloc(), 1000, 1000, none(rt.alloc()))?;
-        assert!(rt;
-            plain_text(rt.alloc(), &mut src, &mut out) == Status::ReadFault,
-            "read {number}"
-        );
-        assert_eq!(rt; out.bytes().len(), 0, "read {number}");
+        let ends = Ends {
+            most_read: 7,
+            failing_read: Some(number),
+            ..SOUND
+        };
+        plain_ends(
+            &rt,
+            rt.alloc(),
+            FIRST.as_bytes(),
+            &ends,
+            Status::ReadFault,
+            &[],
+        )?;
     }
     Ok(())
+}
+
+/// The first bytes of the text.
+fn front(text: &str, length: usize) -> &[u8] {
+    let most = length.min(text.len());
+    &text.as_bytes()[..most]
+}
+
+/// Ends that take a byte a write and fail at one, so that the call's number is the count of bytes.
+fn failing_at(number: usize) -> Ends {
+    Ends {
+        most_written: 1,
+        failing_write: Some(number as u64),
+        ..SOUND
+    }
+}
+
+/// A write to these ends fails, with these bytes written before.
+fn write_fails<R: Abort>(
+    rt: &R,
+    alloc: Global,
+    script: &str,
+    ends: &Ends,
+    written: &[u8],
+) -> Result<(), AllocError> {
+    let bytes = script.as_bytes();
+    plain_ends(rt, alloc, bytes, ends, Status::WriteFault, written)
 }
 
 #[test]
 fn a_write_fault_leaves_a_front(rt: HostRuntime) -> Result<(), Fail> {
-    // One byte a write, so the call's number is the count of bytes; the last is the flush.
+    // The last call is the flush.
     for number in 0..=TRANSCRIPT.len() {
-        let mut src = source(rt.alloc(), FIRST, 1000, none(rt.alloc()))?;
-        let mut out = MemSink::new(rt.alloc(), 1000, 1, call(rt.alloc(), number as u64)?)?;
-        assert!(rt;
-            plain_text(rt.alloc(), &mut src, &mut out) == Status::WriteFault,
-            "write {number}"
-        );
-        assert_eq!(rt;
-            out.bytes(),
-            &TRANSCRIPT.as_bytes()[..number],
-            "write {number}"
-        );
-    }
-    // A sink without room for it all.
-    for room in 0..TRANSCRIPT.len() {
-        let mut src = source(rt.alloc(), FIRST, 1000, none(rt.alloc()))?;
-        let mut out = MemSink::new(rt.alloc(), room, 100, none(rt.alloc()))?;
-        assert!(rt;
-            plain_text(rt.alloc(), &mut src, &mut out) == Status::WriteFault,
-            "room {room}"
-        );
-        assert_eq!(rt; out.bytes(), &TRANSCRIPT.as_bytes()[..room], "room {room}");
-    }
-    // The texts that refuse.
-    for number in 0..17 {
-        let mut src = source(rt.alloc(), "", 1000, none(rt.alloc()))?;
-        let mut out = MemSink::new(rt.alloc(), 1000, 1, call(rt.alloc(), number)?)?;
-        assert!(rt;
-            plain_text(rt.alloc(), &mut src, &mut out) == Status::WriteFault,
-            "write {number}"
-        );
+        let written = front(TRANSCRIPT, number);
+        write_fails(&rt, rt.alloc(), FIRST, &failing_at(number), written)?;
     }
     Ok(())
 }
 
 #[test]
-fn words_are_compared_whole(rt: HostRuntime) -> Result<(), Fail> {
-    let rows: [&[&str]; 8] = [
-        &[],
-        &["run", "x"],
-        &["RUN"],
-        &["runs"],
-        &["plain"],
-        &["make", "1", "1"],
-        &["check"],
-        &[""],
-    ];
-    for row in rows {
-        let mut words = Vec::new(rt.alloc());
-        for word in row {
-            words.push(format!(in rt.alloc(); "{word}")?)?;
-        }
-        let mut src = source(rt.alloc(), FIRST, 1000, none(rt.alloc()))?;
-        let mut out = MemSink::new(rt.alloc(), 1000, 1000, none(rt.alloc()))?;
-        let status = attrs(&rt, rt.alloc(), &words, &mut src, &mut out, &OpenGate);
-        assert!(rt; status == Status::Usage);
-        assert_eq!(rt;
-            out.bytes(),
-            b"usage: attrs run or plain or make SEED COUNT\n".as_slice()
-        );
-        assert_eq!(rt; status.code(), 2);
+fn a_full_sink_has_a_front(rt: HostRuntime) -> Result<(), Fail> {
+    for room in 0..TRANSCRIPT.len() {
+        let written = front(TRANSCRIPT, room);
+        write_fails(&rt, rt.alloc(), FIRST, &Ends { room, ..SOUND }, written)?;
     }
-    let words = vec![in rt.alloc(); format!(in rt.alloc(); "run")?]?;
-    let mut src = source(rt.alloc(), FIRST, 1000, none(rt.alloc()))?;
-    let mut out = MemSink::new(rt.alloc(), 1000, 1000, none(rt.alloc()))?;
-    let status = attrs(&rt, rt.alloc(), &words, &mut src, &mut out, &OpenGate);
-    assert!(rt; status == Status::Good);
-    assert_eq!(rt; out.bytes(), TRANSCRIPT.as_bytes());
+    Ok(())
+}
+
+#[test]
+fn a_write_fault_leaves_a_front_of_a_refusal(rt: HostRuntime) -> Result<(), Fail> {
+    for number in 0..17 {
+        let written = front("refused 0 script\n", number);
+        write_fails(&rt, rt.alloc(), "", &failing_at(number), written)?;
+    }
+    Ok(())
+}
+
+/// Words, how the program ends, and what it writes.
+const COMMANDS: [(&[&str], Status, &str); 9] = [
+    (&[], Status::Usage, USAGE),
+    (&["run", "x"], Status::Usage, USAGE),
+    (&["RUN"], Status::Usage, USAGE),
+    (&["runs"], Status::Usage, USAGE),
+    (&["plain"], Status::Usage, USAGE),
+    (&["make", "1", "1"], Status::Usage, USAGE),
+    (&["check"], Status::Usage, USAGE),
+    (&[""], Status::Usage, USAGE),
+    (&["run"], Status::Good, TRANSCRIPT),
+];
+
+#[test]
+fn words_are_compared_whole(rt: HostRuntime) -> Result<(), Fail> {
+    for (words, status, written) in COMMANDS {
+        command_ends(&rt, rt.alloc(), words, FIRST, status, written)?;
+    }
     OpenGate.before(&rt, 0, 1);
     Ok(())
 }
@@ -198,19 +314,30 @@ fn statuses_have_their_codes(rt: HostRuntime) {
     }
 }
 
+/// Runs so many bytes, which are no script.
+fn long_ends<R: Abort>(
+    rt: &R,
+    alloc: Global,
+    length: usize,
+    status: Status,
+    written: &str,
+) -> Result<(), AllocError> {
+    let bytes = vec![in alloc; b'a'; length]?;
+    let ends = Ends {
+        most_read: 100_000,
+        ..SOUND
+    };
+    plain_ends(rt, alloc, &bytes, &ends, status, written.as_bytes())
+}
+
 #[test]
 fn long_inputs_are_refused(rt: HostRuntime) -> Result<(), Fail> {
-    for (length, wanted, status) in [
+    for (length, written, status) in [
         (1_048_576, "refused 0 script\n", NOT_A_SCRIPT),
         (1_048_577, "refused 0 long\n", Status::TooLong),
         (1_100_000, "refused 0 long\n", Status::TooLong),
     ] {
-        let bytes = vec![in rt.alloc(); b'a'; length]?;
-        let mut src = MemSource::new(bytes, 100_000, none(rt.alloc()));
-        let mut out = MemSink::new(rt.alloc(), 1000, 1000, none(rt.alloc()))?;
-        let answer = plain_text(rt.alloc(), &mut src, &mut out);
-        assert!(rt; answer == status, "{length}");
-        assert_eq!(rt; out.bytes(), wanted.as_bytes(), "{length}");
+        long_ends(&rt, rt.alloc(), length, status, written)?;
     }
     Ok(())
 }

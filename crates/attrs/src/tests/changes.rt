@@ -1,10 +1,10 @@
 //! Runs of scripts in which one line is changed. Each is then no run of its script any more, or isn't legal.
-use super::judging::{Breaks, broken_by};
+use super::judging::{Breaks, broken_by, told};
 use crate::plain_run::run_main;
 use at_script::{Block, Script, read};
-use at_value::{Class, ClassList, Func, HookKind, Name, Obj, Op, Path, Place, Reply, Value};
-use at_world::{Line, LineOp, LineReply, Lines, Local, Ran, What};
-use std::alloc::{AllocError, Global};
+use at_value::{Class, Func, HookKind, Name, Obj, Op, Path, Place, Reply, Value};
+use at_world::{Line, LineOp, LineReply, Local, Plain, Ran, What};
+use std::alloc::Global;
 use std::process::Abort;
 use std::test::Fail;
 
@@ -39,57 +39,6 @@ enum Change {
 /// A line that was changed, from 1, how, and what isn't so then.
 type Row = (usize, Change, Breaks);
 
-fn order_copy(alloc: Global, order: &ClassList) -> Result<ClassList, AllocError> {
-    let mut classes = Vec::new(alloc);
-    for i in 0..order.len() {
-        if let Some(class) = order.at(i) {
-            classes.push(class)?;
-        }
-    }
-    ClassList::copy_of(alloc, &classes)
-}
-
-fn reply_copy(alloc: Global, reply: &Reply) -> Result<Reply, AllocError> {
-    Ok(match reply {
-        Reply::Done => Reply::Done,
-        Reply::Made(object, init) => Reply::Made(*object, *init),
-        Reply::Value(value) => Reply::Value(*value),
-        Reply::Method(func, first) => Reply::Method(*func, *first),
-        Reply::Hook(kind, callee, receiver, other, value) => {
-            Reply::Hook(*kind, *callee, *receiver, *other, *value)
-        }
-        Reply::Order(order) => Reply::Order(order_copy(alloc, order)?),
-        Reply::NoOrder(class) => Reply::NoOrder(*class),
-        // The scripts below have no other refusal.
-        _ => Reply::NoAttr,
-    })
-}
-
-fn line_reply_copy(alloc: Global, reply: &LineReply) -> Result<LineReply, AllocError> {
-    Ok(match reply {
-        LineReply::Of(reply) => LineReply::Of(reply_copy(alloc, reply)?),
-        LineReply::Kept => LineReply::Kept,
-        LineReply::Suspended(times) => LineReply::Suspended(*times),
-    })
-}
-
-fn what_copy(alloc: Global, what: &What) -> Result<What, AllocError> {
-    Ok(match what {
-        What::Did(place, path, op, reply) => {
-            What::Did(*place, *path, *op, line_reply_copy(alloc, reply)?)
-        }
-        What::Local(local) => What::Local(*local),
-    })
-}
-
-fn line_copy(alloc: Global, line: &Line) -> Result<Line, AllocError> {
-    Ok(Line {
-        what: what_copy(alloc, &line.what)?,
-        number: line.number,
-        thread: line.thread,
-    })
-}
-
 fn reply_anew(anew: &Anew) -> LineReply {
     LineReply::Of(match anew {
         Anew::Done => Reply::Done,
@@ -102,69 +51,98 @@ fn reply_anew(anew: &Anew) -> LineReply {
     })
 }
 
-/// What a line says that did an operation, changed.
-fn did_anew(
-    alloc: Global,
-    place: &Place,
-    path: &Path,
-    op: &LineOp,
-    reply: &LineReply,
-    change: &Change,
-) -> Result<What, AllocError> {
-    if let Change::Replies(anew) = change {
-        return Ok(What::Did(*place, *path, *op, reply_anew(anew)));
-    }
-    let reply = line_reply_copy(alloc, reply)?;
-    Ok(match change {
-        Change::At(place) => What::Did(Place(*place), *path, *op, reply),
-        Change::By(path) => What::Did(*place, *path, *op, reply),
-        Change::Asks(op) => What::Did(*place, *path, *op, reply),
-        _ => What::Did(*place, *path, *op, reply),
-    })
-}
-
-fn what_anew(alloc: Global, what: &What, change: &Change) -> Result<What, AllocError> {
-    if let Change::Says(local) = change {
-        return Ok(What::Local(*local));
-    }
-    match what {
-        What::Did(place, path, op, reply) => did_anew(alloc, place, path, op, reply, change),
-        What::Local(local) => Ok(What::Local(*local)),
-    }
-}
-
-fn line_anew(alloc: Global, line: &Line, change: &Change) -> Result<Line, AllocError> {
-    Ok(Line {
-        what: what_anew(alloc, &line.what, change)?,
-        number: match change {
-            Change::Number(number) => *number,
-            _ => line.number,
-        },
-        thread: match change {
-            Change::Thread(thread) => *thread,
-            _ => line.thread,
-        },
-    })
-}
-
-/// Adds the line, changed.
-fn add_anew(
-    alloc: Global,
-    lines: &mut Vec<Line>,
-    line: &Line,
-    change: &Change,
-) -> Result<(), AllocError> {
+/// Changes what a line says that did an operation.
+fn change_what(what: &mut What, change: &Change) {
+    let What::Did(place, path, op, reply) = what else {
+        return;
+    };
     match change {
-        Change::LeftOut => Ok(()),
-        Change::Doubled => {
-            lines.push(line_copy(alloc, line)?)?;
-            lines.push(line_copy(alloc, line)?)?;
-            Ok(())
-        }
-        _ => {
-            lines.push(line_anew(alloc, line, change)?)?;
-            Ok(())
-        }
+        Change::At(other) => *place = Place(*other),
+        Change::By(other) => *path = *other,
+        Change::Asks(other) => *op = *other,
+        Change::Replies(anew) => *reply = reply_anew(anew),
+        _ => {}
+    }
+}
+
+fn change_line(line: &mut Line, change: &Change) {
+    match change {
+        Change::Number(number) => line.number = *number,
+        Change::Thread(thread) => line.thread = *thread,
+        Change::Says(local) => line.what = What::Local(*local),
+        _ => change_what(&mut line.what, change),
+    }
+}
+
+fn change_line_at(lines: &mut [Line], at: usize, change: &Change) {
+    if let Some(line) = lines.get_mut(at) {
+        change_line(line, change);
+    }
+}
+
+/// The line again, with the reply of the data model, which goes on with it.
+fn line_again(plain: &mut Plain, line: &Line) -> Result<Line, Fail> {
+    let what = match &line.what {
+        What::Did(_, _, LineOp::Of(op), _) => told(plain, op)?,
+        What::Did(_, _, _, _) => return Err("a section".into()),
+        What::Local(local) => What::Local(*local),
+    };
+    Ok(Line {
+        what,
+        number: line.number,
+        thread: line.thread,
+    })
+}
+
+/// Adds the line, and once more where it is doubled, which a write can't be.
+fn add_line(
+    lines: &mut Vec<Line>,
+    plain: &mut Plain,
+    line: &Line,
+    is_doubled: bool,
+) -> Result<(), Fail> {
+    lines.push(line_again(plain, line)?)?;
+    if is_doubled {
+        lines.push(line_again(plain, line)?)?;
+    }
+    Ok(())
+}
+
+/// The lines again, where the one at this index may stand twice.
+fn lines_by(
+    alloc: Global,
+    plain: &mut Plain,
+    lines: &[Line],
+    at: usize,
+    is_doubled: bool,
+) -> Result<Vec<Line>, Fail> {
+    let mut anew = Vec::new(alloc);
+    for (i, line) in lines.iter().enumerate() {
+        add_line(&mut anew, plain, line, is_doubled && i == at)?;
+    }
+    Ok(anew)
+}
+
+/// The lines of a run anew, where the one at this index may stand twice.
+fn lines_anew(
+    alloc: Global,
+    lines: &[Line],
+    at: usize,
+    is_doubled: bool,
+) -> Result<Vec<Line>, Fail> {
+    let mut plain = Plain::new(alloc)?;
+    lines_by(alloc, &mut plain, lines, at, is_doubled)
+}
+
+fn leave_out(lines: &mut Vec<Line>, at: usize) {
+    if at < lines.len() {
+        let _ = lines.remove(at);
+    }
+}
+
+fn swap_with_next(lines: &mut [Line], at: usize) {
+    if at < lines.len() && 1 < lines.len() - at {
+        lines.swap(at, at + 1);
     }
 }
 
@@ -176,39 +154,31 @@ fn number_anew(lines: &mut [Line]) {
     }
 }
 
-/// The lines of a run, in a vector of their own.
-fn lines_of(alloc: Global, lines: &Lines) -> Result<Vec<Line>, AllocError> {
-    let mut copy = Vec::new(alloc);
-    for i in 0..lines.len() {
-        if let Some(line) = lines.at(i) {
-            copy.push(line_copy(alloc, line)?)?;
-        }
+/// Changes the line at this index, which stands twice already where it is to be doubled.
+fn change_lines(lines: &mut Vec<Line>, at: usize, change: &Change) {
+    match change {
+        Change::LeftOut => leave_out(lines, at),
+        Change::Doubled => {}
+        Change::Swapped => swap_with_next(lines, at),
+        _ => change_line_at(lines, at, change),
     }
-    Ok(copy)
 }
 
-/// The lines with the one at this index changed.
-fn changed(
+/// What isn't so of the lines once the one at this index is changed.
+fn broken_by_change(
     alloc: Global,
+    script: &Script,
     lines: &[Line],
     at: usize,
     change: &Change,
-) -> Result<Vec<Line>, AllocError> {
-    let mut changed = Vec::new(alloc);
-    for (i, line) in lines.iter().enumerate() {
-        if i == at {
-            add_anew(alloc, &mut changed, line, change)?;
-        } else {
-            changed.push(line_copy(alloc, line)?)?;
-        }
-    }
-    if matches!(change, Change::Swapped) && at < changed.len() && 1 < changed.len() - at {
-        changed.swap(at, at + 1);
-    }
-    if matches!(change, Change::LeftOut | Change::Doubled | Change::Swapped) {
+) -> Result<Breaks, Fail> {
+    let is_doubled = matches!(change, Change::Doubled);
+    let mut changed = lines_anew(alloc, lines, at, is_doubled)?;
+    change_lines(&mut changed, at, change);
+    if is_doubled || matches!(change, Change::LeftOut | Change::Swapped) {
         number_anew(&mut changed);
     }
-    Ok(changed)
+    broken_by(alloc, script, &changed)
 }
 
 /// The run of a script that has `main` alone.
@@ -219,7 +189,37 @@ fn run_of(alloc: Global, script: &Script) -> Result<Ran, Fail> {
     Ok(run_main(alloc, script)?)
 }
 
+/// Changes one line of a run at a time.
+fn try_lines<R: Abort>(
+    rt: &R,
+    alloc: Global,
+    script: &Script,
+    lines: &[Line],
+    rows: &[Row],
+) -> Result<(), Fail> {
+    assert_eq!(rt; broken_by(alloc, script, lines)?, Breaks::Nothing);
+    for (number, change, wanted) in rows {
+        let broken = broken_by_change(alloc, script, lines, number.saturating_sub(1), change)?;
+        assert!(rt; broken != Breaks::Nothing, "line {number}");
+        assert_eq!(rt; broken, *wanted, "line {number}");
+    }
+    Ok(())
+}
+
 /// Runs the script, whose lines are as many, and changes one line at a time.
+fn try_script<R: Abort>(
+    rt: &R,
+    alloc: Global,
+    script: &Script,
+    count: usize,
+    rows: &[Row],
+) -> Result<(), Fail> {
+    let ran = run_of(alloc, script)?;
+    assert_eq!(rt; ran.lines.len(), count);
+    try_lines(rt, alloc, script, ran.lines.items(), rows)
+}
+
+/// Runs the script of this text, whose lines are as many, and changes one line at a time.
 fn tries<R: Abort>(
     rt: &R,
     alloc: Global,
@@ -228,20 +228,7 @@ fn tries<R: Abort>(
     rows: &[Row],
 ) -> Result<(), Fail> {
     let script = read(alloc, text.as_bytes())?;
-    let ran = run_of(alloc, &script)?;
-    let lines = lines_of(alloc, &ran.lines)?;
-    assert_eq!(rt; lines.len(), count);
-    assert_eq!(rt; broken_by(alloc, &script, &lines)?, Breaks::Nothing);
-    for (i, (number, change, wanted)) in rows.iter().enumerate() {
-        let lines = changed(alloc, &lines, number.saturating_sub(1), change)?;
-        assert!(rt; *wanted != Breaks::Nothing);
-        assert_eq!(rt;
-            broken_by(alloc, &script, &lines)?,
-            *wanted,
-            "change {i}, of line {number}"
-        );
-    }
-    Ok(())
+    try_script(rt, alloc, &script, count, rows)
 }
 
 fn class(n: u16) -> Class {
@@ -252,13 +239,18 @@ fn name(n: u16) -> Name {
     Name::new(n).unwrap_or(Name::init())
 }
 
-#[test]
-fn changes_of_a_first_path(rt: HostRuntime) -> Result<(), Fail> {
-    let a = Obj::new(0).ok_or("object")?;
-    let b = Obj::new(1).ok_or("object")?;
-    let (c, x) = (class(1), name(5));
+fn object(n: u16) -> Result<Obj, Fail> {
+    Ok(Obj::new(n).ok_or("object")?)
+}
+
+fn asks(op: Op) -> Change {
+    Change::Asks(LineOp::Of(op))
+}
+
+/// Changes of a line itself, of two objects.
+fn first_rows(b: Obj) -> [Row; 12] {
     let two = Anew::Value(Value::Int(2));
-    let rows = [
+    [
         // The last line is missing, and one more stands at the end.
         (5, Change::LeftOut, Breaks::Run),
         (5, Change::Doubled, Breaks::Run),
@@ -273,20 +265,28 @@ fn changes_of_a_first_path(rt: HostRuntime) -> Result<(), Fail> {
         (4, Change::By(Path::Fast), Breaks::Law),
         (4, Change::Replies(two), Breaks::Law),
         (3, Change::Replies(Anew::Made(b)), Breaks::Both),
+    ]
+}
+
+/// Changes of the operation of a line.
+fn first_operations(a: Obj, c: Class, x: Name) -> [Row; 4] {
+    [
         // Two reads that reply the same, and one that doesn't.
-        (4, Change::Asks(LineOp::Of(Op::TypeGet(c, x))), Breaks::Run),
-        (4, Change::Asks(LineOp::Of(Op::Special(a, x))), Breaks::Run),
-        (
-            4,
-            Change::Asks(LineOp::Of(Op::Get(a, Name::init()))),
-            Breaks::Both,
-        ),
-        (
-            2,
-            Change::Asks(LineOp::Of(Op::TypeSet(c, x, Value::Int(2)))),
-            Breaks::Both,
-        ),
-    ];
+        (4, asks(Op::TypeGet(c, x)), Breaks::Run),
+        (4, asks(Op::Special(a, x)), Breaks::Run),
+        (4, asks(Op::Get(a, Name::init())), Breaks::Both),
+        (2, asks(Op::TypeSet(c, x, Value::Int(2))), Breaks::Both),
+    ]
+}
+
+#[test]
+fn changes_of_a_first_path(rt: HostRuntime) -> Result<(), Fail> {
+    tries(&rt, rt.alloc(), super::FIRST, 5, &first_rows(object(1)?))
+}
+
+#[test]
+fn changes_of_operations(rt: HostRuntime) -> Result<(), Fail> {
+    let rows = first_operations(object(0)?, class(1), name(5));
     tries(&rt, rt.alloc(), super::FIRST, 5, &rows)
 }
 
@@ -311,13 +311,10 @@ super A a.x
 end
 ";
 
-#[test]
-fn changes_of_refusals(rt: HostRuntime) -> Result<(), Fail> {
-    let a = Obj::new(0).ok_or("object")?;
+fn refusing_rows(a: Obj) -> [Row; 14] {
     let value = Anew::Value(Value::Nothing);
     let other_order = Anew::NoOrder(class(4));
-    let four = LineOp::Of(Op::Set(a, name(6), Value::Int(4)));
-    let rows = [
+    [
         (1, Change::Swapped, Breaks::Both),
         // A class without an order is refused by its own name, and isn't made.
         (5, Change::Replies(Anew::Done), Breaks::Law),
@@ -329,14 +326,18 @@ fn changes_of_refusals(rt: HostRuntime) -> Result<(), Fail> {
         (9, Change::Says(Local::Depth), Breaks::Run),
         (10, Change::Replies(value), Breaks::Law),
         // A write of another value, which nobody reads.
-        (11, Change::Asks(four), Breaks::Run),
+        (11, asks(Op::Set(a, name(6), Value::Int(4))), Breaks::Run),
         (12, Change::Replies(Anew::Done), Breaks::Law),
         (12, Change::Swapped, Breaks::Run),
         (13, Change::Says(Local::Unbound(0)), Breaks::Run),
         (13, Change::Says(Local::Kind), Breaks::Run),
         (14, Change::Replies(Anew::Done), Breaks::Law),
-    ];
-    tries(&rt, rt.alloc(), REFUSING, 15, &rows)
+    ]
+}
+
+#[test]
+fn changes_of_refusals(rt: HostRuntime) -> Result<(), Fail> {
+    tries(&rt, rt.alloc(), REFUSING, 15, &refusing_rows(object(0)?))
 }
 
 const CALLING: &str = "attrs 1
@@ -360,36 +361,49 @@ get a.x
 end
 ";
 
-#[test]
-fn changes_of_hooks(rt: HostRuntime) -> Result<(), Fail> {
-    let (d, a) = (Obj::new(0).ok_or("object")?, Obj::new(1).ok_or("object")?);
-    let f = Value::Func(Func::new(0).ok_or("function")?);
-    let (own, other) = (Value::Class(class(2)), Value::Class(class(1)));
-    let (from, to) = (Value::Obj(d), Value::Obj(a));
-    let value = Anew::Value(Value::Nothing);
-    let getter = Anew::Hook(HookKind::Getter, f, from, to, own);
-    let of_another = Anew::Hook(HookKind::DescGet, f, from, to, other);
-    let no_function = Anew::Hook(HookKind::DescGet, Value::Int(7), from, to, own);
-    let rows = [
-        // The hook, its kind, its class and its callee; the function says nothing.
-        (8, Change::Replies(value), Breaks::Law),
-        (8, Change::Replies(getter), Breaks::Law),
-        (8, Change::Replies(of_another), Breaks::Law),
-        (8, Change::Replies(no_function), Breaks::Both),
+/// A hook of an object that is a descriptor, read by another object of the class of this number.
+fn hook(kind: HookKind, callee: Value, d: Obj, a: Obj, owner: u16) -> Change {
+    let owner = Value::Class(class(owner));
+    Change::Replies(Anew::Hook(kind, callee, Value::Obj(d), Value::Obj(a), owner))
+}
+
+/// Changes of a hook: the hook itself, its kind, its class and its callee. The function says nothing.
+fn hook_rows(d: Obj, a: Obj, f: Func) -> [Row; 4] {
+    let value = Change::Replies(Anew::Value(Value::Nothing));
+    let getter = hook(HookKind::Getter, Value::Func(f), d, a, 2);
+    let of_another = hook(HookKind::DescGet, Value::Func(f), d, a, 1);
+    let no_function = hook(HookKind::DescGet, Value::Int(7), d, a, 2);
+    [
+        (8, value, Breaks::Law),
+        (8, getter, Breaks::Law),
+        (8, of_another, Breaks::Law),
+        (8, no_function, Breaks::Both),
+    ]
+}
+
+fn calling_rows(d: Obj) -> [Row; 8] {
+    [
         // A hook of a write isn't a write.
         (9, Change::Replies(Anew::Done), Breaks::Both),
         (9, Change::At(8), Breaks::Law),
-        (12, Change::Asks(LineOp::Of(Op::ClassOf(d))), Breaks::Both),
+        (12, asks(Op::ClassOf(d)), Breaks::Both),
         (13, Change::Says(Local::NotCallable), Breaks::Run),
-        (
-            14,
-            Change::Asks(LineOp::Of(Op::TypeDel(class(1), name(5)))),
-            Breaks::Both,
-        ),
+        (14, asks(Op::TypeDel(class(1), name(5))), Breaks::Both),
         // The history has room, and no read needs any.
         (14, Change::Says(Local::Full(7)), Breaks::Law),
         (15, Change::Says(Local::Full(8)), Breaks::Both),
         (15, Change::At(7), Breaks::Law),
-    ];
+    ]
+}
+
+#[test]
+fn changes_of_hooks(rt: HostRuntime) -> Result<(), Fail> {
+    let f = Func::new(0).ok_or("function")?;
+    let rows = hook_rows(object(0)?, object(1)?, f);
     tries(&rt, rt.alloc(), CALLING, 15, &rows)
+}
+
+#[test]
+fn changes_of_calls(rt: HostRuntime) -> Result<(), Fail> {
+    tries(&rt, rt.alloc(), CALLING, 15, &calling_rows(object(0)?))
 }

@@ -1,7 +1,7 @@
 //! Whether lines are a run of a script, and whether they are legal, as the code decides whose contracts are the
 //! definitions: the thread that runs a script, and the data model.
 use at_script::{Block, Demand, Script, Stmt, Thread, Use};
-use at_value::{Op, Path};
+use at_value::{Op, Path, Value};
 use at_world::{Line, LineOp, LineReply, Local, Plain, What};
 use std::alloc::{AllocError, Global};
 use std::test::Fail;
@@ -100,54 +100,118 @@ fn main_of(script: &Script) -> &[Stmt] {
     }
 }
 
-/// Whether the lines are a run of the script: the thread that executes `main` demands these, one after another.
-fn follows(alloc: Global, script: &Script, lines: &[Line]) -> Result<bool, Fail> {
-    let variables = vec![in alloc; None; script.vars()]?;
-    let mut thread = Thread::new(alloc, main_of(script), variables)?;
-    let mut rest = lines.iter();
+/// What a turn of a thread came to.
+enum Turn {
+    Ended,
+    /// It had nothing to say.
+    Silent,
+    /// It said this line.
+    Said,
+    /// It said another line.
+    Strayed,
+}
+
+fn said(is_so: bool) -> Turn {
+    if is_so { Turn::Said } else { Turn::Strayed }
+}
+
+/// One turn of the thread, where this line comes next.
+fn take_turn<'a>(thread: &mut Thread<'a>, script: &'a Script, line: &Line) -> Turn {
+    match thread.next(script) {
+        Demand::Ended => Turn::Ended,
+        Demand::Silent => Turn::Silent,
+        Demand::Says(local) => said(says(line, &local)),
+        Demand::Asks(op, used) => said(takes(thread, &op, &used, line)),
+    }
+}
+
+/// One turn of the thread, where no line comes any more.
+fn take_last_turn<'a>(thread: &mut Thread<'a>, script: &'a Script) -> Turn {
+    match thread.next(script) {
+        Demand::Ended => Turn::Ended,
+        Demand::Silent => Turn::Silent,
+        Demand::Says(_) | Demand::Asks(_, _) => Turn::Strayed,
+    }
+}
+
+fn unbound(alloc: Global, script: &Script) -> Result<Vec<Option<Value>>, AllocError> {
+    vec![in alloc; None; script.vars()]
+}
+
+/// The thread that executes `main`.
+fn thread_of(alloc: Global, script: &Script) -> Result<Thread<'_>, AllocError> {
+    let variables = unbound(alloc, script)?;
+    Thread::new(alloc, main_of(script), variables)
+}
+
+/// Whether the thread demands these lines, one after another.
+fn goes_along<'a>(
+    thread: &mut Thread<'a>,
+    script: &'a Script,
+    lines: &[Line],
+) -> Result<bool, Fail> {
+    let mut at = 0_usize;
     for _ in 0..MOST_TURNS {
-        let goes_on = match thread.next(script) {
-            Demand::Ended => return Ok(rest.next().is_none()),
-            Demand::Silent => true,
-            Demand::Says(local) => match rest.next() {
-                Some(line) => says(line, &local),
-                None => false,
-            },
-            Demand::Asks(op, used) => match rest.next() {
-                Some(line) => takes(&mut thread, &op, &used, line),
-                None => false,
-            },
+        let turn = match lines.get(at) {
+            Some(line) => take_turn(thread, script, line),
+            None => take_last_turn(thread, script),
         };
-        if !goes_on {
-            return Ok(false);
+        match turn {
+            Turn::Ended => return Ok(at == lines.len()),
+            Turn::Silent => {}
+            Turn::Said => at = at.wrapping_add(1),
+            Turn::Strayed => return Ok(false),
         }
     }
     Err("the thread doesn't end".into())
 }
 
+/// Whether the lines are a run of the script: the thread that executes `main` demands these.
+fn follows(alloc: Global, script: &Script, lines: &[Line]) -> Result<bool, Fail> {
+    let mut thread = thread_of(alloc, script)?;
+    goes_along(&mut thread, script, lines)
+}
+
+/// What a line says of the operation by the data model, which goes on with it.
+pub fn told(plain: &mut Plain, op: &Op) -> Result<What, AllocError> {
+    let reply = LineReply::Of(plain.apply(op)?);
+    Ok(What::Did(plain.place(), Path::Locked, LineOp::Of(*op), reply))
+}
+
+fn words_of(alloc: Global, what: &What) -> Result<String, AllocError> {
+    format!(in alloc; "{what:?}")
+}
+
+/// Whether both say the same.
+fn are_same(alloc: Global, one: &What, other: &What) -> Result<bool, AllocError> {
+    let words = words_of(alloc, one)?;
+    Ok(words == words_of(alloc, other)?)
+}
+
 /// Whether what the line says is so in the data model, which goes on with it.
 fn is_true(alloc: Global, plain: &mut Plain, what: &What) -> Result<bool, AllocError> {
     match what {
-        What::Did(place, path, LineOp::Of(op), reply) => {
-            let wanted = LineReply::Of(plain.apply(op)?);
-            let same = format!(in alloc; "{wanted:?}")? == format!(in alloc; "{reply:?}")?;
-            Ok(same && *place == plain.place() && *path == Path::Locked)
-        }
+        What::Did(_, _, LineOp::Of(op), _) => are_same(alloc, what, &told(plain, op)?),
         What::Did(_, _, _, _) => Ok(false),
         What::Local(local) => Ok(!matches!(local, Local::Full(_) | Local::Worn(_))),
     }
+}
+
+/// Whether what each line says is so in the data model, which goes on with it.
+fn are_true(alloc: Global, plain: &mut Plain, lines: &[Line]) -> Result<bool, AllocError> {
+    for line in lines {
+        if !is_true(alloc, plain, &line.what)? {
+            return Ok(false);
+        }
+    }
+    Ok(true)
 }
 
 /// Whether the lines are legal: each has the place and the reply of the data model, under locks. The scripts have no
 /// sections.
 fn are_legal(alloc: Global, lines: &[Line]) -> Result<bool, AllocError> {
     let mut plain = Plain::new(alloc)?;
-    for line in lines {
-        if !is_true(alloc, &mut plain, &line.what)? {
-            return Ok(false);
-        }
-    }
-    Ok(true)
+    are_true(alloc, &mut plain, lines)
 }
 
 /// What isn't so of the lines.

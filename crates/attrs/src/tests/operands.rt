@@ -1,7 +1,10 @@
 //! Operands of all forms, what `new` calls, and the limits that a run may meet, worked out by hand.
-use super::transcribes;
+use super::{all_transcribe, transcribes};
 use std::alloc::{AllocError, Global};
+use std::process::Abort;
+use std::sync::Wait;
 use std::test::Fail;
+use std::thread::Threads;
 
 /// Operands: a script, and its transcript behind the script.
 const OPERANDS: [(&str, &str); 4] = [
@@ -342,82 +345,109 @@ end
 
 #[test]
 fn operands_of_all_forms(rt: HostRuntime) -> Result<(), Fail> {
-    for (script, told) in OPERANDS {
-        transcribes(&rt, rt.alloc(), script, told)?;
-    }
-    Ok(())
+    Ok(all_transcribe(&rt, rt.alloc(), &OPERANDS)?)
 }
 
 #[test]
 fn new_objects(rt: HostRuntime) -> Result<(), Fail> {
-    for (script, told) in INITS {
-        transcribes(&rt, rt.alloc(), script, told)?;
-    }
-    Ok(())
+    Ok(all_transcribe(&rt, rt.alloc(), &INITS)?)
 }
 
-/// A script that repeats a statement.
+/// The text so many times.
+fn repeated(alloc: Global, text: &str, times: u32) -> Result<String, AllocError> {
+    let mut repeated = String::new(alloc);
+    for _ in 0..times {
+        repeated.push_str(text)?;
+    }
+    Ok(repeated)
+}
+
+/// A script that repeats a statement behind others.
 fn repeating(
     alloc: Global,
     before: &str,
     statement: &str,
     times: u32,
 ) -> Result<String, AllocError> {
-    let mut script = format!(in alloc; "attrs 1\nmain\n{before}")?;
-    for _ in 0..times {
-        script.push_str(statement)?;
+    let statements = repeated(alloc, statement, times)?;
+    format!(in alloc; "attrs 1\nmain\n{before}{statements}end\n")
+}
+
+/// The lines of so many reads, from the third on.
+fn lines_of_reads(alloc: Global, reads: u32) -> Result<String, AllocError> {
+    let mut lines = String::new(alloc);
+    for number in 3..reads.saturating_add(3) {
+        let line = format!(in alloc; "m {number} 2 locked get #0.x = noattr\n")?;
+        lines.push_str(&line)?;
     }
-    script.push_str("end\n")?;
-    Ok(script)
+    Ok(lines)
 }
 
 /// The transcript of `class C`, `new a C` and so many reads, of which the budget of 10,000 statements leaves 9,998.
 fn told_of_reads(alloc: Global, reads: u32, is_over: bool) -> Result<String, AllocError> {
-    let lines = if is_over { 10_001 } else { 10_000 };
-    let mut told = format!(in alloc;
-        "lines {lines}\nm 1 1 locked class C object = done\nm 2 2 locked new C = made #0\n"
-    )?;
-    for read in 0..reads.min(9_998) {
-        let line = format!(in alloc; "m {} 2 locked get #0.x = noattr\n", read + 3)?;
-        told.push_str(line.as_str())?;
-    }
-    if is_over {
-        told.push_str("m 10001 - local budget\n")?;
-    }
-    told.push_str("final\nclass object = object\nclass C = C object\nobject #0 C\nend\n")?;
-    Ok(told)
+    let (count, last) = if is_over {
+        (10_001, "m 10001 - local budget\n")
+    } else {
+        (10_000, "")
+    };
+    let lines = lines_of_reads(alloc, reads.min(9_998))?;
+    format!(in alloc;
+        "lines {count}\nm 1 1 locked class C object = done\nm 2 2 locked new C = made #0\n{lines}{last}final\nclass object = object\nclass C = C object\nobject #0 C\nend\n"
+    )
+}
+
+fn transcribes_reads<R: Wait + Threads + Sync + Abort>(
+    rt: &R,
+    alloc: Global,
+    reads: u32,
+    is_over: bool,
+) -> Result<(), AllocError> {
+    let script = repeating(alloc, "class C\nnew a C\n", "get a.x\n", reads)?;
+    let told = told_of_reads(alloc, reads, is_over)?;
+    transcribes(rt, alloc, &script, &told)
 }
 
 #[test]
 fn ten_thousand_statements(rt: HostRuntime) -> Result<(), Fail> {
     for (reads, is_over) in [(9_998, false), (9_999, true), (12_000, true)] {
-        let script = repeating(rt.alloc(), "class C\nnew a C\n", "get a.x\n", reads)?;
-        let told = told_of_reads(rt.alloc(), reads, is_over)?;
-        transcribes(&rt, rt.alloc(), script.as_str(), told.as_str())?;
+        transcribes_reads(&rt, rt.alloc(), reads, is_over)?;
     }
     Ok(())
 }
 
-/// The transcript of `class C` and 4,097 times `new a C`.
-fn told_of_objects(alloc: Global) -> Result<String, AllocError> {
-    let mut told = format!(in alloc; "lines 4098\nm 1 1 locked class C object = done\n")?;
-    let mut ends = format!(in alloc; "final\nclass object = object\nclass C = C object\n")?;
+/// The lines of 4,096 times `new a C`, from the second on.
+fn lines_of_objects(alloc: Global) -> Result<String, AllocError> {
+    let mut lines = String::new(alloc);
     for object in 0..4_096_u32 {
         let number = object + 2;
         let line = format!(in alloc; "m {number} {number} locked new C = made #{object}\n")?;
-        told.push_str(line.as_str())?;
-        let end = format!(in alloc; "object #{object} C\n")?;
-        ends.push_str(end.as_str())?;
+        lines.push_str(&line)?;
     }
-    told.push_str("m 4098 4097 locked new C = full\n")?;
-    told.push_str(ends.as_str())?;
-    told.push_str("end\n")?;
-    Ok(told)
+    Ok(lines)
+}
+
+/// The last lines, of 4,096 objects.
+fn ends_of_objects(alloc: Global) -> Result<String, AllocError> {
+    let mut lines = String::new(alloc);
+    for object in 0..4_096_u32 {
+        let line = format!(in alloc; "object #{object} C\n")?;
+        lines.push_str(&line)?;
+    }
+    Ok(lines)
+}
+
+/// The transcript of `class C` and 4,097 times `new a C`.
+fn told_of_objects(alloc: Global) -> Result<String, AllocError> {
+    let lines = lines_of_objects(alloc)?;
+    let ends = ends_of_objects(alloc)?;
+    format!(in alloc;
+        "lines 4098\nm 1 1 locked class C object = done\n{lines}m 4098 4097 locked new C = full\nfinal\nclass object = object\nclass C = C object\n{ends}end\n"
+    )
 }
 
 #[test]
 fn as_many_objects_as_there_may_be(rt: HostRuntime) -> Result<(), Fail> {
     let script = repeating(rt.alloc(), "class C\n", "new a C\n", 4_097)?;
     let told = told_of_objects(rt.alloc())?;
-    transcribes(&rt, rt.alloc(), script.as_str(), told.as_str())
+    Ok(transcribes(&rt, rt.alloc(), &script, &told)?)
 }

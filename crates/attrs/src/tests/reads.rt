@@ -1,5 +1,5 @@
 //! Reads of all kinds, worked out by hand: behind a class, of a class, past an object's own values, by a descriptor.
-use super::transcribes;
+use super::all_transcribe;
 use std::test::Fail;
 
 /// What stands behind a class, what a class gives to itself, and special names.
@@ -239,8 +239,5 @@ end
 
 #[test]
 fn reads_of_all_kinds(rt: HostRuntime) -> Result<(), Fail> {
-    for (script, told) in READS {
-        transcribes(&rt, rt.alloc(), script, told)?;
-    }
-    Ok(())
+    Ok(all_transcribe(&rt, rt.alloc(), &READS)?)
 }

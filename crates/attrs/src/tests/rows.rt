@@ -1,5 +1,5 @@
 //! Scripts and the transcripts that they have, worked out by hand from the data model.
-use super::transcribes;
+use super::all_transcribe;
 use std::test::Fail;
 
 /// Values of objects and of classes: a script, and its transcript behind the script.
@@ -329,16 +329,10 @@ end
 
 #[test]
 fn values_that_hide(rt: HostRuntime) -> Result<(), Fail> {
-    for (script, told) in HIDING {
-        transcribes(&rt, rt.alloc(), script, told)?;
-    }
-    Ok(())
+    Ok(all_transcribe(&rt, rt.alloc(), &HIDING)?)
 }
 
 #[test]
 fn orders_and_refusals(rt: HostRuntime) -> Result<(), Fail> {
-    for (script, told) in ORDERS {
-        transcribes(&rt, rt.alloc(), script, told)?;
-    }
-    Ok(())
+    Ok(all_transcribe(&rt, rt.alloc(), &ORDERS)?)
 }
