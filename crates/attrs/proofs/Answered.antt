@@ -1,5 +1,5 @@
 -- What is so at the answers of a call.
-use Rattle.std.proofs.Common.{◌≡◌, ◌∙◌, ◌<◌, ap, sym, ℕ, List, [], ◌∷◌, map, length, get_or, Some, arith, inl, inr}
+use Rattle.std.proofs.Common.{◌≡◌, ◌<◌, ap, sym, ℕ, List, [], ◌∷◌, map, length, get_or, Some, arith, inl, inr}
 use Rattle.at_source.specs.Whole.{GaveAll}
 use Rattle.at_world.specs.declared.line.Line.{Line}
 use Rattle.at_world.specs.declared.last.Final as final

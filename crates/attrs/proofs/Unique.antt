@@ -8,7 +8,6 @@ use Rattle.at_value.specs.declared.reply.Reply.TheVariants as replies
 use Rattle.at_value.specs.declared.reply.Place.{Place}
 use Rattle.at_value.specs.declared.reply.Path as path
 use Rattle.at_value.specs.declared.reply.Path.TheVariants as paths
-use Rattle.at_world.specs.declared.last.Final as final
 use Rattle.at_world.specs.declared.line.Line.{Line}
 use Rattle.at_world.specs.declared.line.LineOp as line_op
 use Rattle.at_world.specs.declared.line.LineOp.TheVariants as line_ops
@@ -26,12 +25,12 @@ use Rattle.at_world.specs.Final.{final_of}
 use Rattle.at_world.specs.Serial.{GoesOn, Adds, IsSerial}
 use Rattle.at_script.specs.declared.demand.Use as used
 use Rattle.at_script.specs.Parts.{Parts}
-use Rattle.at_script.specs.Execution.{State, Next, ended, silent, says, asks, dropped, taken, next_of, start}
-use Rattle.at_script.specs.Executions.{reply_taken, stands_for, can_write, can_wear, TakesReply, Answers, Fits, Leads}
+use Rattle.at_script.specs.Execution.{State, Next, ended, silent, says, asks, taken, next_of, start}
+use Rattle.at_script.specs.Executions.{reply_taken, stands_for, TakesReply, Answers, Fits, Leads}
 use Rattle.at_script.specs.Runs.{numbered, unbound}
 use Rattle.at_script.proofs.Numbering.{whats_of_numbered}
 use Rattle.at_script.proofs.Alone.{alone_lines}
-use Rattle.attrs.specs.PlainRun.{IsPlain, IsPlainRun}
+use Rattle.attrs.specs.PlainRun.{IsPlain}
 use Rattle.attrs.specs.RunLaws.{PlainRunsAreOne}
 
 -- the history behind an operation

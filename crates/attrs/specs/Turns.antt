@@ -1,5 +1,5 @@
 -- One turn of a thread on the plain data model: what it does to the thread, and to the world.
-use Rattle.std.specs.Prelude.{◌≡◌, ◌≤◌, ℕ, List, [], ◌∷◌, ◌++◌, length, map, All}
+use Rattle.std.specs.Prelude.{◌≡◌, ◌≤◌, ℕ, List, [], ◌∷◌, length, All}
 use Rattle.at_value.specs.declared.operation.Op as op
 use Rattle.at_world.specs.declared.line.LineOp.TheVariants as line_ops
 use Rattle.at_world.specs.declared.line.LineReply.TheVariants as line_replies

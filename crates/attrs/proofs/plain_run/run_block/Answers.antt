@@ -1,9 +1,7 @@
-use Rattle.std.proofs.Common.{◌≡◌, ◌∙◌, refl, sym, ap, subst, ℕ, suc, ◌+◌, ◌*◌, ◌<◌, ◌≤◌, arith, List, [], ◌∷◌, ◌++◌, length, replicate, Option, None, length-append}
+use Rattle.std.proofs.Common.{◌≡◌, ◌∙◌, sym, ap, subst, ℕ, ◌+◌, arith, List, [], ◌∷◌, ◌++◌, length, replicate, Option, None, length-append}
 use Rattle.at_value.specs.declared.value.Value as value
 use Rattle.at_world.specs.declared.line.Line.{Line}
-use Rattle.at_world.specs.declared.line.What as what
 use Rattle.at_script.specs.Execution.{State, start}
-use Rattle.at_script.specs.Runs.{numbered}
 use Rattle.at_script.specs.Threads.{state_of}
 use Rattle.at_script.proofs.Steps.{Few}
 use Rattle.at_script.proofs.Leading.{start_few, step_onward}

@@ -1,4 +1,4 @@
-use Rattle.std.proofs.Common.{◌≡◌, ◌+◌, ◌*◌, ◌≤◌, ℕ, List, length, replicate, None, vec_capacity}
+use Rattle.std.proofs.Common.{◌≡◌, ◌+◌, ◌*◌, ◌≤◌, List, length, replicate, None, vec_capacity}
 use Rattle.at_world.specs.declared.line.What as what
 use Rattle.at_script.specs.Execution.{start}
 use Rattle.at_script.specs.Runs.{numbered}

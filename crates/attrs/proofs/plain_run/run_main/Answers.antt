@@ -1,4 +1,4 @@
-use Rattle.std.proofs.Common.{◌≡◌, ◌∙◌, sym, ap, subst, List}
+use Rattle.std.proofs.Common.{◌∙◌, sym, subst, List}
 use Rattle.at_world.specs.declared.line.Line.{Line}
 use Rattle.attrs.specs.PlainRun.{IsPlainRun}
 use Rattle.attrs.proofs.Turning.{plain_run}
