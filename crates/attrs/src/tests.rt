@@ -261,8 +261,13 @@ fn a_write_fault_leaves_a_front(rt: HostRuntime) -> Result<(), Fail> {
 #[test]
 fn a_full_sink_has_a_front(rt: HostRuntime) -> Result<(), Fail> {
     for room in 0..TRANSCRIPT.len() {
+        let ends = Ends {
+            room,
+            most_written: 100,
+            ..SOUND
+        };
         let written = front(TRANSCRIPT, room);
-        write_fails(&rt, rt.alloc(), FIRST, &Ends { room, ..SOUND }, written)?;
+        write_fails(&rt, rt.alloc(), FIRST, &ends, written)?;
     }
     Ok(())
 }
