@@ -1,10 +1,10 @@
--- How cells for the most bases hold a shorter list.
+-- How the cells of `Bases` hold a list of numbers.
 use Rattle.std.specs.Prelude.{ℕ, ◌≡◌, ◌≤◌, ◌-◌, List, ◌++◌, length, take, drop, replicate}
 use Rattle.std.proofs.Common.{arith, ◌∙◌, ap, take-append-drop, length-take-le}
 use Rattle.at_value.specs.declared.list.Bases.TheInside.{Inside}
 use Rattle.at_value.specs.Widths.{most_bases}
 
--- cells for a list that is no longer: its numbers, and then zeros
+-- the cells of a list of at most so many numbers as a class may have bases: its numbers, and then zeros
 abbrev pub cells_of : List ℕ → List ℕ
 cells_of list = list ++ replicate (most_bases - length list) 0
 

@@ -39,8 +39,8 @@ IsOp (ops.Special o n) = IsObject o × IsName n
 IsOp (ops.ClassOf o) = IsObject o
 IsOp (ops.Mro c) = IsClass c
 
--- The fields of word 0 from bit 0 on: the kind of the operation, the class or object that it is done to, a second number, and
--- a name.
+-- The fields of word 0 from bit 0 on: the kind of the operation, the class or object that it is done to, a second number,
+-- and a name.
 abbrev pub heading_fields : ℕ → ℕ → ℕ → ℕ → List Field
 heading_fields kind subject second name =
     field operation_bits kind ∷ field subject_bits subject ∷ field second_bits second ∷ field attribute_bits name ∷ []
@@ -58,7 +58,8 @@ rows_fields width each (suc words) numbers = row_fields width (take each numbers
 abbrev pub bases_fields : List ℕ → List (List Field)
 bases_fields bases = rows_fields base_bits bases_a_word bases_words bases
 
--- The fields of the four words of an operation. What an operation hasn't is 0, and a word that it doesn't use has no fields.
+-- The fields of the four words of an operation. What an operation doesn't have is 0, and a word that it doesn't use has no
+-- fields.
 abbrev pub words_fields : op.Op → List (List Field)
 words_fields (ops.NewClass c bases) = heading_fields 1 c (length bases) 0 ∷ bases_fields bases
 words_fields (ops.TypeSet c n v) = heading_fields 2 c 0 n ∷ fields_of v ∷ [] ∷ [] ∷ []

@@ -160,8 +160,8 @@ fn bases_of(count: u64, words: &[u64; 3]) -> Option<Bases>
 }
 
 /// The four words of an operation: its kind, the class or object that it is done to, a second class, object or number of
-/// bases, and its name in word 0; its value in word 1, or its bases in the words behind word 0. What an operation hasn't
-/// is 0. The layout is this project's own, and stands in `docs/DATA_MODEL.md`, "Words".
+/// bases, and its name in word 0; its value in word 1, or its bases in the words behind word 0. What an operation
+/// doesn't have is 0. The layout is this project's own, and stands in `docs/DATA_MODEL.md`, "Words".
 pub fn pack(op: &Op) -> [u64; 4]
     ensures words { result ≡ words_of op.now }
     ensures range { IsOp op.now }

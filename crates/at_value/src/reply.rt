@@ -107,7 +107,7 @@ pub enum Path {
 /// A reply with its place in the history and the way that the call went.
 #[derive(Drop, Debug)]
 pub struct Answer {
-    /// The place: that of the write itself, or the number of writes that a reading saw.
+    /// A write's own place, from 1, and for any other reply the number of the writes before it.
     pub place: Place,
     /// What the operation replied.
     pub reply: Reply,

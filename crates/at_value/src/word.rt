@@ -1,5 +1,5 @@
 //! Values as words of 64 bits, for tables of words that several threads share.
-ghost use Rattle.std.specs.Prelude.{◌≡◌, ◌<◌, ◌+◌, ◌-◌, ◌*◌, ◌/◌, ◌%◌, ◌^◌, ◌≤◌, ◌≢◌, Some, IfSome, IfNone, ◌↔◌, option_map};
+ghost use Rattle.std.specs.Prelude.{◌≡◌, ◌<◌, ◌/◌, ◌%◌, ◌^◌, ◌≤◌, ◌≢◌, Some, IfSome, IfNone, ◌↔◌, option_map};
 ghost use Rattle.at_value.specs.declared.value.Value as values;
 ghost use Rattle.at_value.specs.declared.value.Value.TheVariants as value;
 ghost use Rattle.std.specs.Int.{w32, cast_signed};
@@ -71,32 +71,37 @@ fn index_of(v: Value) -> u16
         Value::Func(f) | Value::Static(f) | Value::ClassM(f) => f.number(),
         Value::Class(c) => c.number(),
         Value::Obj(o) => o.number(),
-        _ => 0,
+        Value::Nothing | Value::Int(_) | Value::Prop(_) => 0,
     }
 }
 
 /// The number above the kind in the word of a value. Like numbers are taken together, so that the built code needs no
 /// table of the kinds.
-fn number_of(v: Value) -> u64
+fn rest_of(v: Value) -> u64
     ensures same { result ≡ word_of v / 2 ^ kind_bits }
     ensures range { IsValue v }
 {
     match v {
         Value::Prop(p) => p.number(),
         Value::Nothing | Value::Int(_) => u64::from(integer_of(v)),
-        _ => u64::from(index_of(v)),
+        Value::Text(_)
+        | Value::Func(_)
+        | Value::Static(_)
+        | Value::ClassM(_)
+        | Value::Class(_)
+        | Value::Obj(_) => u64::from(index_of(v)),
     }
 }
 
 /// The word of a value, which is never 0. The lowest bits are its kind and those above them its numbers; the
-/// bits that it doesn't use are 0.
+/// bits that it doesn't use are 0. The layout is this project's own, and stands in `docs/DATA_MODEL.md`, "Words".
 pub fn to_word(v: Value) -> u64
     ensures word { result ≡ word_of v }
     ensures positive { 0 < result }
     ensures range { IsValue v }
 {
     let kind = kind_of(&v);
-    joined(number_of(v), KIND_BITS, kind)
+    joined(rest_of(v), KIND_BITS, kind)
 }
 
 /// The name with this number, and none exactly from 4,096 on.
@@ -136,7 +141,7 @@ fn int_at(n: u64) -> Option<Value>
 }
 
 /// The value of a kind up to that of texts: nothing, an integer or a text.
-fn plain_value(kind: u64, rest: u64) -> Option<Value>
+fn simple_value(kind: u64, rest: u64) -> Option<Value>
     requires first { 1 ≤ kind }
     requires last { kind ≤ 3 }
     ensures { result ≡ value_at_kind kind rest }
@@ -164,7 +169,7 @@ fn function_value(kind: u64, f: Func) -> Value
 }
 
 /// The value of the kind of classes, or of objects.
-fn instance_value(kind: u64, rest: u64) -> Option<Value>
+fn class_or_object(kind: u64, rest: u64) -> Option<Value>
     requires first { 8 ≤ kind }
     requires last { kind ≤ 9 }
     ensures { result ≡ value_at_kind kind rest }
@@ -181,10 +186,10 @@ fn value_of_kind(kind: u64, rest: u64) -> Option<Value>
     ensures { result ≡ value_at_kind kind rest }
 {
     match kind {
-        NOTHING..=TEXT => plain_value(kind, rest),
+        NOTHING..=TEXT => simple_value(kind, rest),
         PROP => Some(Value::Prop(Prop::of_number(rest)?)),
         FUNC..=CLASS_METHOD => Some(function_value(kind, func_at(rest)?)),
-        CLASS..=OBJ => instance_value(kind, rest),
+        CLASS..=OBJ => class_or_object(kind, rest),
         _ => None,
     }
 }
@@ -198,7 +203,7 @@ pub(crate) fn read_value(w: u64) -> Option<Value>
 }
 
 /// The value whose word this is, and none exactly where it is the word of no value: where the kind is none of the nine,
-/// a number is out of its range, or a bit is set that the kind doesn't use.
+/// a number is out of its range, or a bit is set that the kind doesn't use. The layout is that of `to_word`.
 pub fn from_word(w: u64) -> Option<Value>
     ensures same { (v : values.Value) → (result ≡ Some v) ↔ HasWord v w }
     ensures some { IfSome result (λ v. HasWord v w) }

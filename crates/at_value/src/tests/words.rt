@@ -125,7 +125,7 @@ fn other_words_are_no_value(rt: HostRuntime) -> Result<(), Fail> {
 /// An operation with its words.
 fn assert_words(rt: &impl Abort, op: &Op, words: [u64; 4]) -> Result<(), Fail> {
     assert_eq!(rt; pack(op), words, "{op:?}");
-    assert_eq!(rt; unpack(words), Some(*op), "{:#x} {:#x}", words[0], words[1]);
+    assert_eq!(rt; unpack(words), Some(*op), "{words:?}");
     Ok(())
 }
 
@@ -219,7 +219,7 @@ fn other_words_are_no_operation(rt: HostRuntime) -> Result<(), Fail> {
         [0x0900_0104, 0, 0, 0],
     ];
     for words in rows {
-        assert_eq!(rt; unpack(words), None, "{:#x} {:#x}", words[0], words[1]);
+        assert_eq!(rt; unpack(words), None, "{words:?}");
     }
     Ok(())
 }
