@@ -1,7 +1,8 @@
 -- How a value that is found on a class is bound: the tables of reading, writing and deleting.
--- After the Python language reference, "Implementing Descriptors", "Invoking Descriptors", "Customizing attribute access"
--- and "Special method lookup", and the built-in `property`, `staticmethod`, `classmethod` and `super`. An object is a
--- descriptor by what its class has: `__get__`, `__set__` and `__delete__` are never looked up in the object's own dictionary.
+-- After the Python language reference, "Implementing Descriptors", "Invoking Descriptors", "Customizing attribute
+-- access" and "Special method lookup", and the built-in `property`, `staticmethod`, `classmethod` and `super`. An object
+-- is a descriptor by what its class has: `__get__`, `__set__` and `__delete__` are never looked up in the object's own
+-- dictionary.
 use Rattle.std.specs.Prelude.{ℕ, Bool, true, false, ◌||◌, ◌&&◌, Option, Some, None, is_some, if◌then◌else◌}
 use Rattle.at_value.specs.declared.value.Value as value
 use Rattle.at_value.specs.declared.value.Value.TheVariants as values

@@ -52,8 +52,8 @@ fn bind(t: Value, three: &Three, o: Obj, c: Class) -> Reply
 }
 
 /// The reply to the look-up of a special method of object o of class c, or of a name behind a class in c's order: what
-/// was found is t, and `three` is what t has as a descriptor. Nothing of the object's own counts, and `__getattr__` isn't
-/// tried. It is `NoAttr` exactly where there is no t, and `NoGetter` exactly where t is a property without a getter.
+/// was found is t, and `three` is what t has as a descriptor. Nothing of the object's own counts, and `__getattr__`
+/// isn't tried. It is `NoAttr` exactly where there is no t, and `NoGetter` exactly where t is a property without a getter.
 ///
 /// After the Python language reference, "Special method lookup" and "Invoking Descriptors", and the built-in `super`.
 pub fn bind_special(t: Option<Value>, three: &Three, o: Obj, c: Class) -> Reply
@@ -97,8 +97,8 @@ fn hook_or(a: Option<Value>, o: Obj, n: Name, reply: Reply) -> Reply
 
 /// The reply to reading name n of object o of class c: the class has t, `three` is what t has as a descriptor, the
 /// object's dictionary has `own`, and the class has a as `__getattr__`. A property, and an object with `__get__` and one
-/// of `__set__` and `__delete__`, come before the object's own value. Where there is no `__getattr__`, it is `NoGetter`
-/// for a property without a getter, and `NoAttr` where nothing was found.
+/// of `__set__` and `__delete__`, come before the object's own value. Only where there is no `__getattr__` it is
+/// `NoGetter`, exactly for a property without a getter, or `NoAttr`, exactly where there is neither t nor `own`.
 ///
 /// After the Python language reference, "Invoking Descriptors" and "Customizing attribute access".
 pub fn bind_get(

@@ -91,8 +91,8 @@ fn descriptor_delete(set: Option<Value>, del: Option<Value>, d: Obj, o: Obj) -> 
 }
 
 /// How a deletion of an attribute of object o goes on: the class has t, and `three` is what t has as a descriptor. It is
-/// `Own` where the deletion is left to the object's own dictionary, and `NoDeleter` where t is a property without a deleter, or an
-/// object whose class has `__set__` and no `__delete__`.
+/// `Own` where the deletion is left to the object's own dictionary, and `NoDeleter` where t is a property without a
+/// deleter, or an object whose class has `__set__` and no `__delete__`.
 ///
 /// After the Python language reference, "Implementing Descriptors" and "Invoking Descriptors".
 pub fn bind_del(t: Option<Value>, three: &Three, o: Obj) -> Step
