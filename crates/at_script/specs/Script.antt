@@ -110,7 +110,7 @@ declared_in lines = filter_map (λ line. declared_by (words_of line)) lines
 abbrev pub with_classes : List (List ℕ) → Option Tables
 with_classes lines = option_map (λ classes. record opening { classes = classes }) (all_interned widths.classes opening.classes (declared_in lines))
 
--- the texts with one more function, which no class and no other function is called as
+-- the texts with one more function, where there is room for it and no class and no other function is called as it is
 abbrev pub with_func : Tables → List ℕ → Option Tables
 with_func t text =
     if is_some (place_of text t.classes) || is_some (func_at t text)

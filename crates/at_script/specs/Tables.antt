@@ -44,9 +44,9 @@ abbrev pub or_object : List ℕ → List ℕ
 or_object [] = 0 ∷ []
 or_object (base ∷ bases) = base ∷ bases
 
--- a class has at most eight bases
+-- no more bases than a class may have
 abbrev pub bases_at : Tables → List (List ℕ) → Option (List ℕ)
-bases_at t words = if nat_le (length words) 8 then option_map or_object (classes_at t words) else None
+bases_at t words = if nat_le (length words) widths.most_bases then option_map or_object (classes_at t words) else None
 
 -- the number of a function
 abbrev pub func_at : Tables → List ℕ → Option ℕ
@@ -56,14 +56,14 @@ func_at t text = place_of text t.funcs
 abbrev pub most_variables : ℕ
 most_variables = 1024
 
--- the number of a variable, which isn't called as a class or a function is
+-- the number of a variable, where there is room for it and no class and no function is called as it is
 abbrev pub variable_in : Tables → List ℕ → Option (ℕ × Tables)
 variable_in t text =
     if is_some (place_of text t.classes) || is_some (func_at t text)
     then None
     else option_map (λ found. (found.0, record t { vars = found.1 })) (interned most_variables text t.vars)
 
--- the number of the name of an attribute or of a text
+-- the number of the name of an attribute or of a text, where there is room for it
 abbrev pub name_in : Tables → List ℕ → Option (ℕ × Tables)
 name_in t text = option_map (λ found. (found.0, record t { names = found.1 })) (interned widths.names text t.names)
 

@@ -98,10 +98,10 @@ given_more sorted keys i n key within at is given =
     }
 
 key_in : (keys : List ℕ) (a : ℕ) → a < length keys → key_at keys a ≡ slice_index keys a
-key_in keys a within = unwrap_or-slice_get keys a (4095 - a) ∙ get_or_default keys a (4095 - a) 0 within
+key_in keys a within = unwrap_or-slice_get keys a (widths.names - 1 - a) ∙ get_or_default keys a (widths.names - 1 - a) 0 within
 
-key_past : (keys : List ℕ) (a : ℕ) → length keys ≤ a → key_at keys a ≡ 4095 - a
-key_past keys a past = ap (λ (o : Option ℕ). unwrap_or o (4095 - a)) (slice_get_past keys a past)
+key_past : (keys : List ℕ) (a : ℕ) → length keys ≤ a → key_at keys a ≡ widths.names - 1 - a
+key_past keys a past = ap (λ (o : Option ℕ). unwrap_or o (widths.names - 1 - a)) (slice_get_past keys a past)
 
 text_past : (texts : List (List ℕ)) (a : ℕ) → length texts ≤ a → text_at texts a ≡ []
 text_past texts a past = ap (λ (o : Option (List ℕ)). unwrap_or o []) (slice_get_past texts a past)

@@ -17,7 +17,7 @@ IsUpto texts a b = is_gt (name_cmp texts a b) ≡ false
 
 -- the key of a name; that of a name without a text is below those of all names with one
 abbrev pub key_at : List ℕ → ℕ → ℕ
-key_at keys n = unwrap_or (slice_get keys n) (4095 - n)
+key_at keys n = unwrap_or (slice_get keys n) (widths.names - 1 - n)
 
 -- names of rising keys come one after another
 abbrev pub AreKeys : List (List ℕ) → List ℕ → Type 0

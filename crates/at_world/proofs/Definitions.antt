@@ -1,5 +1,5 @@
 -- What is kept, as classes are made and get names.
-use Rattle.std.proofs.Common.{◌≡◌, ◌∙◌, ap, sym, refl, ℕ, zero, suc, ◌<◌, ◌∷◌, ◌++◌, length, get_or, set, take, drop, replicate, List, [], map, Option, Some, None, true, is_some, IsTrue, ◌==◌, lit<, arith}
+use Rattle.std.proofs.Common.{◌≡◌, ◌∙◌, ap, sym, refl, ℕ, zero, suc, ◌<◌, ◌-◌, ◌∷◌, ◌++◌, length, get_or, set, take, drop, replicate, List, [], map, Option, Some, None, true, is_some, IsTrue, ◌==◌, lit<, arith}
 use Rattle.std.specs.List.{list_all}
 use Rattle.std.proofs.lemmas.Bool.{eq-eqb, or_left, or_right, false≢true}
 use Rattle.std.proofs.lemmas.List.{take_all, length-set, length-map, map-set, get_or-map, drop_all, append-nil}
@@ -90,12 +90,12 @@ none_made (suc n) zero = refl
 none_made (suc n) (suc c) = none_made n c
 
 -- in the opening world the class `object` has itself as its order
-opening_orders : AreOrders opening.classes ((0 ∷ []) ∷ replicate 254 [])
+opening_orders : AreOrders opening.classes ((0 ∷ []) ∷ replicate (widths.classes - 1) [])
 opening_orders zero made = refl
-opening_orders (suc c) made = absurd (false≢true (sym (ap is_some (none_made 254 c)) ∙ made))
+opening_orders (suc c) made = absurd (false≢true (sym (ap is_some (none_made (widths.classes - 1) c)) ∙ made))
 
 pub kept_opening : (classes : List (Option ClassRow)) (orders : List (List ℕ)) (objects : List Object) (dicts : List Map)
-    → classes ≡ opening.classes → orders ≡ (0 ∷ []) ∷ replicate 254 [] → objects ≡ [] → dicts ≡ [] → IsKept classes orders objects dicts
+    → classes ≡ opening.classes → orders ≡ (0 ∷ []) ∷ replicate (widths.classes - 1) [] → objects ≡ [] → dicts ≡ [] → IsKept classes orders objects dicts
 kept_opening classes orders objects dicts are_classes are_orders no_objects no_dicts =
     rw (are_classes, are_orders, no_objects, no_dicts) (record {
       numbered = refl;

@@ -1,5 +1,5 @@
 -- Changes of a world that leave it well-formed, and the opening world.
-use Rattle.std.proofs.Common.{◌≡◌, ◌≢◌, ◌∙◌, ap, sym, refl, subst, ℕ, zero, suc, ◌<◌, ◌≤◌, ◌==◌, inl, inr, cond, length, get_or, set, replicate, List, [], ◌∷◌, Option, Some, None, true, false, is_some, All, Contains, nat_eq, ltb, arith}
+use Rattle.std.proofs.Common.{◌-◌, ◌≡◌, ◌≢◌, ◌∙◌, ap, sym, refl, subst, ℕ, zero, suc, ◌<◌, ◌≤◌, ◌==◌, inl, inr, cond, length, get_or, set, replicate, List, [], ◌∷◌, Option, Some, None, true, false, is_some, All, Contains, nat_eq, ltb, arith}
 use Rattle.std.specs.List.{IsDistinct}
 use Rattle.std.proofs.lemmas.Bool.{cases_eq, cases_lt, false≢true}
 use Rattle.std.proofs.lemmas.List.{get_or-set_same, get_or-set_other, get_or_past, get_or-replicate, length-set, length-replicate}
@@ -136,10 +136,10 @@ formed-with_objects w objects dicts formed more few placed kept held =
 
 none_else : (c : ℕ) → row_of opening.classes (suc c) ≡ None
 none_else c =
-    let rows : List (Option ClassRow) = replicate 254 None in
-    elim (cases_lt c 254) [
-      | inl below ↦ get_or-replicate 254 c None None below
-      | inr past ↦ get_or_past rows c None (omega (arith, length-replicate {A = Option ClassRow} 254 None))
+    let rows : List (Option ClassRow) = replicate (widths.classes - 1) None in
+    elim (cases_lt c (widths.classes - 1)) [
+      | inl below ↦ get_or-replicate (widths.classes - 1) c None None below
+      | inr past ↦ get_or_past rows c None (omega (arith, length-replicate {A = Option ClassRow} (widths.classes - 1) None))
     ]
 
 -- no class of it has a base or a name

@@ -1,6 +1,6 @@
 -- Worlds: classes, objects and dictionaries, the order of a class, and what a name is in it.
 -- After the Python language reference, "Objects, values and types" and "Custom classes".
-use Rattle.std.specs.Prelude.{ℕ, zero, suc, ◌≡◌, ◌<◌, ◌≤◌, ◌⊎◌, List, [], ◌∷◌, length, map, replicate, Option, Some, None, slice_index_or, IsTrue, is_some, nat_eq, All, Contains}
+use Rattle.std.specs.Prelude.{ℕ, zero, suc, ◌≡◌, ◌<◌, ◌≤◌, ◌-◌, ◌⊎◌, List, [], ◌∷◌, length, map, replicate, Option, Some, None, slice_index_or, IsTrue, is_some, nat_eq, All, Contains}
 use Rattle.std.specs.List.{IsDistinct}
 use Rattle.at_c3.specs.Merge.{order_of_lists}
 use Rattle.at_value.specs.Numbers.{object}
@@ -91,7 +91,7 @@ find_in w c n = find_by w.classes (order_of w c) n
 
 -- the world of the class `object` alone, which has no base and no name
 abbrev pub opening : World
-opening = record { classes = Some (record { bases = []; own = [] }) ∷ replicate 254 None; objects = []; dicts = [] }
+opening = record { classes = Some (record { bases = []; own = [] }) ∷ replicate (widths.classes - 1) None; objects = []; dicts = [] }
 
 abbrev pub bases_of : Option ClassRow → List ℕ
 bases_of None = []
@@ -117,9 +117,9 @@ NamesMade w v = Unit {0}
 abbrev pub AllNameMade : World → Map → Type 0
 AllNameMade w names = All (λ (pair : ℕ × value.Value). NamesMade w pair.1) names
 
--- A well-formed world: the class numbers are 0 to 254, and 0 is `object`, without bases and names; each base, class,
--- object and dictionary that is named is there; no class has a base twice or stands above itself, and each has an order;
--- there are at most 4,096 objects, and a dictionary for each.
+-- A well-formed world: it has a row for each class number that there may be, and 0 is `object`, without bases and names; each
+-- base, class, object and dictionary that is named is there; no class has a base twice or stands above itself, and each has
+-- an order; there are no more objects than there may be, and a dictionary for each.
 pub record IsWellFormed (w : World) : Type 0 where
   pub numbered : length w.classes ≡ widths.classes
   pub rooted : row_of w.classes object ≡ Some (record { bases = []; own = [] })

@@ -1,5 +1,6 @@
 //! The data model, run as it is written: a world, and the operations on it one after another.
-ghost use Rattle.std.specs.Prelude.{◌≡◌, ◌∷◌, [], IsTrue, IfOk, OnErr, replicate};
+ghost use Rattle.std.specs.Prelude.{◌≡◌, ◌-◌, ◌∷◌, [], IsTrue, IfOk, OnErr, replicate};
+ghost use Rattle.at_value.specs.Widths as widths;
 ghost use Rattle.at_world.specs.World as world;
 ghost use Rattle.at_world.specs.Step as steps;
 ghost use Rattle.at_world.specs.Plain.{stepped, lists_of};
@@ -140,7 +141,7 @@ fn first_classes(alloc: Global) -> Result<Vec<Option<ClassRow>>, AllocError>
 
 /// The orders of the opening world: that of `object` is itself, and the others are empty.
 fn first_orders(alloc: Global) -> Result<Vec<List>, AllocError>
-    ensures { IfOk result (λ orders. lists_of orders.items ≡ (0 ∷ []) ∷ replicate 254 []) }
+    ensures { IfOk result (λ orders. lists_of orders.items ≡ (0 ∷ []) ∷ replicate (widths.classes - 1) []) }
 {
     let mut orders = Vec::with_capacity(alloc, CLASSES)?;
     let mut first = SmallVec::new(alloc);

@@ -1,6 +1,6 @@
 //! Operations that make classes, and that change their names.
 ghost use Rattle.std.specs.Prelude.{◌≡◌, Some, None, IsTrue, IfOk, OnOk, OnErr, IsErrOf, length};
-ghost use Rattle.at_value.specs.Pairs.{value_at, with_value, without};
+ghost use Rattle.at_value.specs.Pairs.{with_value, without};
 ghost use Rattle.at_value.specs.Widths as widths;
 ghost use Rattle.at_world.specs.World as world;
 ghost use Rattle.at_world.specs.Step as steps;
