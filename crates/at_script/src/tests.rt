@@ -112,7 +112,7 @@ fn whole_scripts(rt: HostRuntime) -> Result<(), Fail> {
 }
 
 #[test]
-fn bytes_beyond_text(rt: HostRuntime) -> Result<(), Fail> {
+fn bytes_above_ascii(rt: HostRuntime) -> Result<(), Fail> {
     assert!(rt; !is_script(rt.alloc(), b"attrs 1\nmain\n# \x80\nend\n")?);
     assert!(rt; !accepts(rt.alloc(), b"get a.\x80")?);
     Ok(())
@@ -130,7 +130,7 @@ fn first_path_statements(class: Class, name: Name) -> [Stmt; 5] {
     ]
 }
 
-/// The statements of `main` are these.
+/// `main` has the statements of `FIRST_PATH`.
 fn assert_statements<R: Abort>(rt: &R, script: &Script) {
     assert!(rt; has_main(script, &first_path_statements(class(), name())));
 }

@@ -29,7 +29,7 @@ const NOT_A_SCRIPT: Status = Status::Refused(0, Cause::Script);
 
 /// How many bytes a source gives and a sink takes in one call, at least one, which call of each fails, and how many
 /// bytes the sink takes in all.
-#[derive(Clone, Copy)]
+#[derive(Clone, Copy, Debug)]
 struct Ends {
     most_read: usize,
     failing_read: Option<u64>,
@@ -92,7 +92,7 @@ fn plain_ends<R: Abort>(
     written: &[u8],
 ) -> Result<(), AllocError> {
     let ended = plain_over(alloc, script, ends)?;
-    assert_ended(rt, &ended, status, written);
+    assert_ended(rt, &ended, status, written, ends);
     Ok(())
 }
 
@@ -128,14 +128,14 @@ fn command_ends<R: Wait + Threads + Sync + Abort>(
 ) -> Result<(), AllocError> {
     let words = owned(alloc, words)?;
     let ended = commanded(rt, alloc, &words, script)?;
-    assert_ended(rt, &ended, status, written.as_bytes());
+    assert_ended(rt, &ended, status, written.as_bytes(), &SOUND);
     Ok(())
 }
 
-/// The call has ended so, and this is what it wrote.
-fn assert_ended<R: Abort>(rt: &R, ended: &Ended, status: Status, written: &[u8]) {
-    assert_eq!(rt; ended.status, status);
-    assert_eq!(rt; ended.out.bytes(), written);
+/// The call has ended so over these ends, and this is what it wrote.
+fn assert_ended<R: Abort>(rt: &R, ended: &Ended, status: Status, written: &[u8], ends: &Ends) {
+    assert_eq!(rt; ended.status, status, "{ends:?}");
+    assert_eq!(rt; ended.out.bytes(), written, "{ends:?}");
 }
 
 /// The transcript that has this behind its script.
@@ -274,8 +274,9 @@ fn a_full_sink_has_a_front(rt: HostRuntime) -> Result<(), Fail> {
 
 #[test]
 fn a_write_fault_leaves_a_front_of_a_refusal(rt: HostRuntime) -> Result<(), Fail> {
-    for number in 0..17 {
-        let written = front("refused 0 script\n", number);
+    let refusal = "refused 0 script\n";
+    for number in 0..=refusal.len() {
+        let written = front(refusal, number);
         write_fails(&rt, rt.alloc(), "", &failing_at(number), written)?;
     }
     Ok(())

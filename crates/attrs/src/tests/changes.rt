@@ -94,7 +94,7 @@ fn line_again(plain: &mut Plain, line: &Line) -> Result<Line, Fail> {
     })
 }
 
-/// Adds the line, and once more where it is doubled, which a write can't be.
+/// Adds the line, and once more where it is doubled. Only a read may be: a write would be done twice.
 fn add_line(
     lines: &mut Vec<Line>,
     plain: &mut Plain,
@@ -123,7 +123,8 @@ fn lines_by(
     Ok(anew)
 }
 
-/// The lines of a run anew, where the one at this index may stand twice.
+/// The lines of a run anew, where the one at this index may stand twice. They are the run's own, since those were found
+/// to be so in the data model.
 fn lines_anew(
     alloc: Global,
     lines: &[Line],
@@ -198,10 +199,10 @@ fn try_lines<R: Abort>(
     rows: &[Row],
 ) -> Result<(), Fail> {
     assert_eq!(rt; broken_by(alloc, script, lines)?, Breaks::Nothing);
-    for (number, change, wanted) in rows {
+    for (i, (number, change, wanted)) in rows.iter().enumerate() {
         let broken = broken_by_change(alloc, script, lines, number.saturating_sub(1), change)?;
-        assert!(rt; broken != Breaks::Nothing, "line {number}");
-        assert_eq!(rt; broken, *wanted, "line {number}");
+        assert!(rt; broken != Breaks::Nothing, "row {i}, of line {number}");
+        assert_eq!(rt; broken, *wanted, "row {i}, of line {number}");
     }
     Ok(())
 }

@@ -115,22 +115,14 @@ fn said(is_so: bool) -> Turn {
     if is_so { Turn::Said } else { Turn::Strayed }
 }
 
-/// One turn of the thread, where this line comes next.
-fn take_turn<'a>(thread: &mut Thread<'a>, script: &'a Script, line: &Line) -> Turn {
-    match thread.next(script) {
-        Demand::Ended => Turn::Ended,
-        Demand::Silent => Turn::Silent,
-        Demand::Says(local) => said(says(line, &local)),
-        Demand::Asks(op, used) => said(takes(thread, &op, &used, line)),
-    }
-}
-
-/// One turn of the thread, where no line comes any more.
-fn take_last_turn<'a>(thread: &mut Thread<'a>, script: &'a Script) -> Turn {
-    match thread.next(script) {
-        Demand::Ended => Turn::Ended,
-        Demand::Silent => Turn::Silent,
-        Demand::Says(_) | Demand::Asks(_, _) => Turn::Strayed,
+/// One turn of the thread, where this line comes next, if any.
+fn take_turn<'a>(thread: &mut Thread<'a>, script: &'a Script, line: Option<&Line>) -> Turn {
+    match (thread.next(script), line) {
+        (Demand::Ended, _) => Turn::Ended,
+        (Demand::Silent, _) => Turn::Silent,
+        (Demand::Says(local), Some(line)) => said(says(line, &local)),
+        (Demand::Asks(op, used), Some(line)) => said(takes(thread, &op, &used, line)),
+        (_, None) => Turn::Strayed,
     }
 }
 
@@ -152,11 +144,7 @@ fn goes_along<'a>(
 ) -> Result<bool, Fail> {
     let mut at = 0_usize;
     for _ in 0..MOST_TURNS {
-        let turn = match lines.get(at) {
-            Some(line) => take_turn(thread, script, line),
-            None => take_last_turn(thread, script),
-        };
-        match turn {
+        match take_turn(thread, script, lines.get(at)) {
             Turn::Ended => return Ok(at == lines.len()),
             Turn::Silent => {}
             Turn::Said => at = at.wrapping_add(1),
