@@ -2,9 +2,3 @@ mod Ascii
 mod Blocks
 mod Cuts
 mod Numerals
-pub mod Steps
-pub mod Saying
-pub mod Leading
-pub mod Determined
-pub mod Numbering
-pub mod Alone

@@ -7,8 +7,3 @@ pub mod Parts
 pub mod Script
 pub mod Reading
 pub mod Faults
-pub mod Execution
-pub mod Executions
-pub mod Threads
-pub mod Runs
-pub mod ExecutionLaws

@@ -1,6 +1,5 @@
 //! Bytes that are scripts, and bytes that aren't.
 
-mod execution;
 mod limits;
 
 use crate::{Block, Cause, Operand, ReadFault, Script, Stmt, Target, read};

@@ -7,7 +7,7 @@ use Rattle.at_source.specs.Page.{Held, Writes, Printed, empty_page}
 use Rattle.at_source.proofs.Told.{append_known-nil}
 use Rattle.at_source.proofs.Printing.{then_writes}
 use Rattle.at_text.specs.Prints.{Point, Prints, item_text}
-use Rattle.at_world.specs.declared.last.ObjEnd.{ObjEnd}
+use Rattle.at_model.specs.declared.last.ObjEnd.{ObjEnd}
 use Rattle.at_script.specs.Parts.{Parts}
 use Rattle.at_text.specs.Last.{object_end_text, object_ends_text}
 use Rattle.at_text.specs.Values.{text_at}

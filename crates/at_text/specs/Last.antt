@@ -4,8 +4,8 @@ use Rattle.std.specs.List.{flat_map}
 use Rattle.std.specs.Ordering.{nat_cmp, is_lt}
 use Rattle.std.specs.Cmp.Lexicographic.{slice_cmp}
 use Rattle.at_value.specs.declared.value.Value.{Value}
-use Rattle.at_world.specs.declared.last.ClassEnd.{ClassEnd}
-use Rattle.at_world.specs.declared.last.ObjEnd.{ObjEnd}
+use Rattle.at_model.specs.declared.last.ClassEnd.{ClassEnd}
+use Rattle.at_model.specs.declared.last.ObjEnd.{ObjEnd}
 use Rattle.at_script.specs.Parts.{Parts}
 use Rattle.at_text.specs.Values.{text_at, object_text, class_item, classes_text, value_item}
 

@@ -11,15 +11,15 @@ use Rattle.at_value.specs.declared.reply.Path as paths
 use Rattle.at_value.specs.declared.reply.Path.TheVariants as path
 use Rattle.at_value.specs.declared.reply.Miss as misses
 use Rattle.at_value.specs.declared.reply.Miss.TheVariants as miss
-use Rattle.at_world.specs.declared.line.Line.{Line}
-use Rattle.at_world.specs.declared.line.LineOp as line_ops
-use Rattle.at_world.specs.declared.line.LineOp.TheVariants as line_op
-use Rattle.at_world.specs.declared.line.LineReply as line_replies
-use Rattle.at_world.specs.declared.line.LineReply.TheVariants as line_reply
-use Rattle.at_world.specs.declared.line.Local as locals
-use Rattle.at_world.specs.declared.line.Local.TheVariants as local
-use Rattle.at_world.specs.declared.line.What as whats
-use Rattle.at_world.specs.declared.line.What.TheVariants as what
+use Rattle.at_line.specs.declared.line.Line.{Line}
+use Rattle.at_line.specs.declared.line.LineOp as line_ops
+use Rattle.at_line.specs.declared.line.LineOp.TheVariants as line_op
+use Rattle.at_line.specs.declared.line.LineReply as line_replies
+use Rattle.at_line.specs.declared.line.LineReply.TheVariants as line_reply
+use Rattle.at_line.specs.declared.line.Local as locals
+use Rattle.at_line.specs.declared.line.Local.TheVariants as local
+use Rattle.at_line.specs.declared.line.What as whats
+use Rattle.at_line.specs.declared.line.What.TheVariants as what
 use Rattle.at_script.specs.Parts.{Parts}
 use Rattle.at_text.specs.Values.{text_at, object_text, object_attribute, class_attribute, class_item, classes_text, value_text, value_item}
 

@@ -10,8 +10,8 @@
 --     end
 use Rattle.std.specs.Prelude.{ℕ, List, ◌++◌, length, codes, decimal}
 use Rattle.std.specs.List.{flat_map}
-use Rattle.at_world.specs.declared.line.Line.{Line}
-use Rattle.at_world.specs.declared.last.Final.{Final}
+use Rattle.at_line.specs.declared.line.Line.{Line}
+use Rattle.at_model.specs.declared.last.Final.{Final}
 use Rattle.at_script.specs.Parts.{Parts}
 use Rattle.at_text.specs.Lines.{line_text}
 use Rattle.at_text.specs.Last.{class_end_text, object_ends_text}

@@ -9,10 +9,10 @@ ghost use Rattle.at_text.specs.Transcript.{final_text};
 use crate::order::ByBytes;
 use crate::pen::Pen;
 use crate::value::{put_class, put_class_item, put_classes, put_name, put_value_item};
+use at_model::{ClassEnd, ClassEnds, Final, ObjEnd, ObjEnds};
 use at_script::Script;
 use at_source::Sink;
 use at_value::{Name, Pairs, Value};
-use at_world::{ClassEnd, ClassEnds, Final, ObjEnd, ObjEnds};
 
 /// Prints a name and its value, as `.x V`.
 fn put_pair<K: Sink>(out: &mut K, pen: &mut Pen, names: &Script, name: Name, value: &Value)

@@ -3,16 +3,16 @@ ghost use Rattle.std.specs.Prelude.{◌++◌, codes, decimal};
 ghost use Rattle.at_text.specs.Lines.{miss_word, path_item, local_text, thread_text, what_text, line_text};
 ghost use Rattle.at_text.specs.Prints.{Prints};
 ghost use Rattle.at_text.specs.Values.{text_at};
-ghost use Rattle.at_world.specs.declared.line.What.TheVariants as whats;
+ghost use Rattle.at_line.specs.declared.line.What.TheVariants as whats;
 
 use crate::operation::put_line_op;
 use crate::pen::Pen;
 use crate::reply::put_line_reply;
 use crate::value::put_var;
+use at_line::{Line, LineOp, LineReply, Local, What};
 use at_script::Script;
 use at_source::Sink;
 use at_value::{Miss, Path, Place};
-use at_world::{Line, LineOp, LineReply, Local, What};
 
 /// Prints why a call didn't go the fast way, between blanks.
 fn put_miss<K: Sink>(out: &mut K, pen: &mut Pen, miss: &Miss)

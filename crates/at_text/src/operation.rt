@@ -9,10 +9,10 @@ use crate::value::{
     put_bases, put_class, put_class_attribute, put_class_item, put_name, put_object,
     put_object_attribute, put_value_item,
 };
+use at_line::LineOp;
 use at_script::Script;
 use at_source::Sink;
 use at_value::{Bases, Class, Name, Obj, Op, Value};
-use at_world::LineOp;
 
 /// Prints a word with a blank behind it, a class and its bases.
 fn put_with_bases<K: Sink>(

@@ -6,10 +6,10 @@ ghost use Rattle.at_text.specs.Values.{text_at, classes_text, value_text, value_
 
 use crate::pen::Pen;
 use crate::value::{put_class, put_classes, put_func, put_object, put_value, put_value_item};
+use at_line::LineReply;
 use at_script::Script;
 use at_source::Sink;
 use at_value::{Class, ClassList, Func, HookKind, Obj, Reply, Value};
-use at_world::LineReply;
 
 /// Prints `made #N`, and `init V` behind it where the object's class has an `__init__`.
 fn put_made<K: Sink>(out: &mut K, pen: &mut Pen, names: &Script, object: Obj, init: &Option<Value>)

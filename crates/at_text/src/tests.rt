@@ -4,12 +4,13 @@ ghost use Rattle.std.specs.Prelude.{◌<◌};
 mod words;
 
 use crate::{PrintFault, print};
+use at_line::{Line, LineOp, LineReply, Ran, What};
+use at_model::{ClassEnd, Final, ObjEnd};
 use at_script::read;
 use at_source::MemSink;
 use at_value::{
     Bases, Class, ClassList, Miss, Name, Obj, Op, Pairs, Path, Place, Reply, Sequence, Value,
 };
-use at_world::{ClassEnd, Final, Line, LineOp, LineReply, ObjEnd, Ran, What};
 use std::alloc::{AllocError, Global};
 use std::process::Abort;
 use std::test::Fail;

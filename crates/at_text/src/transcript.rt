@@ -11,9 +11,9 @@ use crate::last::put_final;
 use crate::line::put_line;
 use crate::order::ByBytes;
 use crate::pen::Pen;
+use at_line::{Lines, Ran};
 use at_script::Script;
 use at_source::{Failed, Sink};
-use at_world::{Lines, Ran};
 use std::alloc::{AllocError, Global};
 
 /// Why a transcript wasn't printed to its end.

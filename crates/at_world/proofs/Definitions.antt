@@ -9,14 +9,15 @@ use Rattle.at_c3.proofs.NumberLemmas.{has}
 use Rattle.at_value.specs.Classes.{AreClasses}
 use Rattle.at_value.specs.declared.reply.Reply.TheVariants as replies
 use Rattle.at_value.specs.Widths as widths
-use Rattle.at_world.specs.declared.rows.ClassRow.{ClassRow}
-use Rattle.at_world.specs.declared.rows.Object.{Object}
-use Rattle.at_world.specs.World.{World, Map, row_of, order_in, order_of, opening}
-use Rattle.at_world.specs.Attributes.{Outcome}
-use Rattle.at_world.specs.Step.{with_names, with_class, unless_unordered, if_ordered}
-use Rattle.at_world.specs.Plain.{State, AreOrders, lists_of, IsKept}
-use Rattle.at_world.proofs.Orders.{order_members_made, made_below}
-use Rattle.at_world.proofs.KeptOrders.{defined_order, AreOrders-defined, AreOrders-same_bases, same_bases-own, first_unordered-defined, first_unordered-undefined}
+use Rattle.at_model.specs.declared.rows.ClassRow.{ClassRow}
+use Rattle.at_model.specs.declared.rows.Object.{Object}
+use Rattle.at_model.specs.World.{World, Map, row_of, order_in, order_of, opening}
+use Rattle.at_model.specs.Attributes.{Outcome}
+use Rattle.at_model.specs.Step.{with_names, with_class, unless_unordered, if_ordered}
+use Rattle.at_model.specs.StoredOrders.{AreOrders}
+use Rattle.at_world.specs.Plain.{State, lists_of, IsKept}
+use Rattle.at_model.proofs.Orders.{order_members_made, made_below}
+use Rattle.at_model.proofs.StoredOrders.{defined_order, AreOrders-defined, AreOrders-same_bases, same_bases-own, first_unordered-defined, first_unordered-undefined}
 
 -- the order of a class that is made with these bases, by the orders that are kept
 pub gathered_order : (classes : List (Option ClassRow)) (orders lists : List (List ℕ)) (c n : ℕ) (bases items : List ℕ)

@@ -1,14 +1,3 @@
-pub mod Subsequences
-pub mod Orders
-pub mod KeptOrders
-pub mod Definitions
-pub mod OrderLaws
-pub mod Rebasing
-pub mod Rebased
-pub mod Worlds
-pub mod WorldSteps
-pub mod OnlyWrites
-pub mod Serials
-pub mod Histories
-pub mod LineChecks
-pub mod KeptSections
+mod Definitions
+mod Rebasing
+mod Rebased

@@ -4,14 +4,14 @@ use Rattle.std.proofs.lemmas.Bool.{and_parts}
 use Rattle.std.proofs.lemmas.List.{length-set}
 use Rattle.at_value.specs.declared.reply.Reply.TheVariants as replies
 use Rattle.at_value.specs.Widths as widths
-use Rattle.at_world.specs.declared.rows.ClassRow.{ClassRow}
-use Rattle.at_world.specs.declared.rows.Object.{Object}
-use Rattle.at_world.specs.World.{World, Map, row_of, own_of, order_of}
-use Rattle.at_world.specs.Attributes.{Outcome}
-use Rattle.at_world.specs.Step.{is_made, are_made, is_empty, first_unordered_from, first_unordered, unless_unordered, if_ordered, with_bases}
+use Rattle.at_model.specs.declared.rows.ClassRow.{ClassRow}
+use Rattle.at_model.specs.declared.rows.Object.{Object}
+use Rattle.at_model.specs.World.{World, Map, row_of, own_of, order_of}
+use Rattle.at_model.specs.Attributes.{Outcome}
+use Rattle.at_model.specs.Step.{is_made, are_made, is_empty, first_unordered_from, first_unordered, unless_unordered, if_ordered, with_bases}
 use Rattle.at_world.specs.Plain.{State, IsKept, order_or_none}
 use Rattle.at_world.specs.Rebasing.{rebased, AreNewOrders, first_empty}
-use Rattle.at_world.proofs.KeptOrders.{ordered-from_none}
+use Rattle.at_model.proofs.StoredOrders.{ordered-from_none}
 use Rattle.at_world.proofs.Rebasing.{made-rebased}
 
 -- the class that gets the bases is made

@@ -1,13 +1,14 @@
 -- What the plain data model keeps: a world, and how many writes led to it.
-use Rattle.std.specs.Prelude.{ℕ, ◌≡◌, ◌+◌, ◌-◌, ◌^◌, ◌≤◌, min, length, map, List, [], ◌∷◌, Option, Some, None, if◌then◌else◌, IsTrue, is_some, slice_index_or}
+use Rattle.std.specs.Prelude.{ℕ, ◌≡◌, ◌+◌, ◌-◌, ◌^◌, ◌≤◌, min, length, map, List, [], ◌∷◌, Option, Some, None, if◌then◌else◌, slice_index_or}
 use Rattle.smallvec.specs.SmallVec.{SmallVec}
 use Rattle.at_value.specs.declared.operation.Op as op
 use Rattle.at_value.specs.Widths as widths
-use Rattle.at_world.specs.declared.rows.ClassRow.{ClassRow}
-use Rattle.at_world.specs.World.{World, Map, row_of, all_orders, joined, order_in}
-use Rattle.at_world.specs.Attributes.{Outcome}
-use Rattle.at_world.specs.Step.{step, is_done}
-use Rattle.at_world.specs.declared.rows.Object.{Object}
+use Rattle.at_model.specs.declared.rows.ClassRow.{ClassRow}
+use Rattle.at_model.specs.World.{World, Map, all_orders, joined}
+use Rattle.at_model.specs.StoredOrders.{AreOrders}
+use Rattle.at_model.specs.Attributes.{Outcome}
+use Rattle.at_model.specs.Step.{step, is_done}
+use Rattle.at_model.specs.declared.rows.Object.{Object}
 
 pub record State : Type 0 where
   pub world : World
@@ -23,10 +24,6 @@ moved place outcome = record { world = outcome.world; place = if is_done outcome
 -- the state after an operation: the world after its step, and one place more where it is a write
 abbrev pub stepped : State → op.Op → State
 stepped s operation = moved s.place (step s.world operation)
-
--- the order that is kept for each class that is made is its order
-abbrev pub AreOrders : List (Option ClassRow) → List (List ℕ) → Type 0
-AreOrders classes orders = (c : ℕ) → IsTrue (is_some (row_of classes c)) → order_in classes c ≡ Some (slice_index_or orders c [])
 
 abbrev pub lists_of : List (SmallVec ℕ) → List (List ℕ)
 lists_of orders = map (λ l. l.items) orders

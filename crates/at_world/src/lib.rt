@@ -1,18 +1,12 @@
-//! The data model: worlds of classes, objects and dictionaries, what each operation does to one, and the lines and the
-//! final namespaces that a run tells of.
+//! The data model run as it is written: `Plain`, a world and the operations on it one after another. The rows, lines and
+//! namespaces that go with it are those of the crates below.
 #![tactic(auto)]
 
-mod last;
-pub mod laws;
-mod line;
-pub mod line_examples;
 mod lookup;
 mod plain;
-mod rows;
 #[cfg(test)]
 mod tests;
 
-pub use last::{ClassEnd, ClassEnds, Final, ObjEnd, ObjEnds, Ran};
-pub use line::{Line, LineOp, LineReply, Lines, Local, What};
+pub use at_line::{Line, LineOp, LineReply, Lines, Local, Ran, What};
+pub use at_model::{ClassEnd, ClassEnds, ClassRow, Final, ObjEnd, ObjEnds, Object};
 pub use plain::Plain;
-pub use rows::{ClassRow, Object};

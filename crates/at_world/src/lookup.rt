@@ -2,10 +2,10 @@
 ghost use Rattle.std.specs.Prelude.{◌≡◌, is_some};
 ghost use Rattle.std.specs.Option.{option_copied};
 ghost use Rattle.at_value.specs.Pairs.{value_at};
-ghost use Rattle.at_world.specs.World.{row_of, own_of, find_along};
-ghost use Rattle.at_world.specs.Attributes as attributes;
+ghost use Rattle.at_model.specs.World.{row_of, own_of, find_along};
+ghost use Rattle.at_model.specs.Attributes as attributes;
 
-use crate::rows::ClassRow;
+use at_model::ClassRow;
 use at_value::{Name, Value};
 
 /// What is kept of the class with this number, where it is made.

@@ -1,8 +1,8 @@
 //! The data model, run as it is written: a world, and the operations on it one after another.
 ghost use Rattle.std.specs.Prelude.{◌≡◌, ◌-◌, ◌∷◌, [], IsTrue, IfOk, OnErr, replicate};
 ghost use Rattle.at_value.specs.Widths as widths;
-ghost use Rattle.at_world.specs.World as world;
-ghost use Rattle.at_world.specs.Step as steps;
+ghost use Rattle.at_model.specs.World as world;
+ghost use Rattle.at_model.specs.Step as steps;
 ghost use Rattle.at_world.specs.Plain.{stepped, lists_of};
 
 mod classes;
@@ -13,8 +13,8 @@ mod orders;
 mod reading;
 mod rebasing;
 
-use crate::rows::{ClassRow, Object};
 use at_c3::List;
+use at_model::{ClassRow, Object};
 use at_value::{Bases, Class, Op, Pairs, Place, Reply};
 use smallvec::SmallVec;
 use std::alloc::{AllocError, Global};

@@ -2,10 +2,9 @@
 
 ghost use Rattle.std.specs.Prelude.{◌<◌};
 
-mod histories;
 mod worked;
 
-use crate::{Plain, laws};
+use crate::Plain;
 use at_value::{Bases, Class, Func, Name, Obj, Op, Prop, Reply, Value};
 use std::alloc::AllocError;
 use std::process::Abort;
@@ -241,12 +240,4 @@ fn objects_come_to_an_end(rt: HostRuntime) -> Result<(), Fail> {
     let last = plain.last()?;
     assert_eq!(rt; last.objects.len(), 4096);
     Ok(())
-}
-
-#[test]
-fn laws_hold() {
-    laws::order_laws();
-    laws::step_keeps_well_formed();
-    laws::replay_is_well_formed();
-    laws::only_writes_change_worlds();
 }

@@ -1,8 +1,8 @@
 -- What is so at the answers of a call.
 use Rattle.std.proofs.Common.{◌≡◌, ◌<◌, ap, sym, ℕ, List, [], ◌∷◌, map, length, get_or, Some, arith, inl, inr}
 use Rattle.at_source.specs.Whole.{GaveAll}
-use Rattle.at_world.specs.declared.line.Line.{Line}
-use Rattle.at_world.specs.declared.last.Final as final
+use Rattle.at_line.specs.declared.line.Line.{Line}
+use Rattle.at_model.specs.declared.last.Final as final
 use Rattle.at_script.specs.Parts.{Parts}
 use Rattle.at_script.specs.Script.{script_of}
 use Rattle.attrs.specs.declared.status.Status as status

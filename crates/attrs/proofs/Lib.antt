@@ -1,5 +1,2 @@
 mod MainAlone
 mod Answered
-mod Turning
-mod Legals
-mod Unique

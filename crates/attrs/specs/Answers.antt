@@ -8,8 +8,8 @@ use Rattle.at_script.specs.declared.fault.Cause.TheVariants as causes
 use Rattle.at_script.specs.Parts.{Parts}
 use Rattle.at_script.specs.Script.{script_of}
 use Rattle.at_text.specs.Transcript.{text}
-use Rattle.at_world.specs.declared.line.Line.{Line}
-use Rattle.at_world.specs.declared.last.Final as final
+use Rattle.at_line.specs.declared.line.Line.{Line}
+use Rattle.at_model.specs.declared.last.Final as final
 use Rattle.attrs.specs.declared.status.Status as status
 use Rattle.attrs.specs.declared.status.Status.TheVariants as statuses
 

@@ -4,13 +4,14 @@ ghost use Rattle.std.specs.Io.KnownBytes.{append_known};
 ghost use Rattle.at_source.specs.Faults.{Rose};
 ghost use Rattle.at_source.specs.Whole.{GaveFirst, GrewByFront};
 ghost use Rattle.at_script.specs.Script.{script_of};
-ghost use Rattle.attrs.specs.PlainRun.{IsPlainRun, IsLegalRun};
+ghost use Rattle.at_run.specs.PlainRun.{IsPlainRun};
+ghost use Rattle.at_run.specs.LegalRun.{IsLegalRun};
 ghost use Rattle.attrs.specs.Answers.{Ends, IsAnswer, IsTextAnswer, IsUsageAnswer, refusal_text};
 
 use crate::gate::Gate;
-use crate::plain_run::run_main;
 use crate::status::Status;
 use crate::telling::{refusal, tell};
+use at_run::run_main;
 use at_script::{Cause, ReadFault, Script};
 use at_source::{ReadAllFault, Sink, Source, read_all};
 use at_text::{PrintFault, print};

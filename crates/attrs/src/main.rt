@@ -3,8 +3,6 @@
 
 mod command;
 mod gate;
-mod laws;
-mod plain_run;
 mod status;
 mod telling;
 #[cfg(test)]

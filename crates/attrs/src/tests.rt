@@ -8,7 +8,6 @@ mod rows;
 
 use crate::command::{attrs, plain_text};
 use crate::gate::{Gate, OpenGate};
-use crate::laws;
 use crate::status::Status;
 use at_script::Cause;
 use at_source::{MemSink, MemSource};
@@ -346,11 +345,4 @@ fn long_inputs_are_refused(rt: HostRuntime) -> Result<(), Fail> {
         long_ends(&rt, rt.alloc(), length, status, written)?;
     }
     Ok(())
-}
-
-/// Each call does nothing: its contract is proved.
-#[test]
-fn laws_hold() {
-    laws::plain_runs_are_events();
-    laws::plain_runs_are_one();
 }

@@ -1,9 +1,9 @@
 //! The words of every kind of line.
 use super::{assert_prints, class, name, object, run_of};
+use at_line::{Line, LineOp, LineReply, Local, What};
 use at_value::{
     Bases, Class, ClassList, Func, HookKind, Miss, Name, Obj, Op, Path, Place, Prop, Reply, Value,
 };
-use at_world::{Line, LineOp, LineReply, Local, What};
 use std::alloc::{AllocError, Global};
 use std::test::Fail;
 

@@ -2,14 +2,14 @@
 ghost use Rattle.std.specs.Prelude.{◌≡◌, Some, None, IsTrue, IfOk, OnOk, OnErr, IsErrOf, length};
 ghost use Rattle.at_value.specs.Pairs.{with_value, without};
 ghost use Rattle.at_value.specs.Widths as widths;
-ghost use Rattle.at_world.specs.World as world;
-ghost use Rattle.at_world.specs.Step as steps;
+ghost use Rattle.at_model.specs.World as world;
+ghost use Rattle.at_model.specs.Step as steps;
 
 use super::Plain;
 use super::orders::order_from;
 use crate::lookup::own_value;
-use crate::rows::ClassRow;
 use at_c3::{List, MergeFault};
+use at_model::ClassRow;
 use at_value::{Bases, Class, Name, Pairs, Reply, Value};
 use std::alloc::AllocError;
 

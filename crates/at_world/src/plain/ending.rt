@@ -1,11 +1,10 @@
 //! The final namespaces of the world that is kept.
 ghost use Rattle.std.specs.Prelude.{◌≡◌, IfOk, Some, map};
-ghost use Rattle.at_world.specs.World as world;
-ghost use Rattle.at_world.specs.Final.{final_of, class_ends, object_end, order_or_empty};
+ghost use Rattle.at_model.specs.World as world;
+ghost use Rattle.at_model.specs.Final.{final_of, class_ends, object_end, order_or_empty};
 
 use super::Plain;
-use crate::last::{ClassEnd, Final, ObjEnd};
-use crate::rows::ClassRow;
+use at_model::{ClassEnd, ClassRow, Final, ObjEnd};
 use at_value::{Class, ClassList, Pairs, Sequence};
 use std::alloc::AllocError;
 

@@ -1,6 +1,6 @@
 //! Whether what an operation names is made.
 ghost use Rattle.std.specs.Prelude.{◌≡◌, nat_lt, length};
-ghost use Rattle.at_world.specs.Step as steps;
+ghost use Rattle.at_model.specs.Step as steps;
 
 use super::Plain;
 use crate::lookup::class_row;

@@ -2,13 +2,13 @@
 ghost use Rattle.std.specs.Prelude.{◌≡◌, ◌<◌, [], IfOk, OnOk, OnErr, slice_get, slice_set, slice_index_or, length};
 ghost use Rattle.at_value.specs.Pairs.{value_at, with_value, without};
 ghost use Rattle.at_desc.specs.Binding.{bound_set, bound_del};
-ghost use Rattle.at_world.specs.World as world;
-ghost use Rattle.at_world.specs.Attributes as attributes;
-ghost use Rattle.at_world.specs.Step as steps;
+ghost use Rattle.at_model.specs.World as world;
+ghost use Rattle.at_model.specs.Attributes as attributes;
+ghost use Rattle.at_model.specs.Step as steps;
 
 use super::Plain;
-use crate::rows::Object;
 use at_desc::{Step, bind_del, bind_set};
+use at_model::Object;
 use at_value::{Class, Name, Obj, Pairs, Reply, Value};
 use std::alloc::AllocError;
 

@@ -3,7 +3,7 @@ ghost use Rattle.std.specs.Prelude.{◌≡◌, ◌≤◌, ◌<◌, [], ℕ, Some
 ghost use Rattle.std.specs.List.{list_any};
 ghost use Rattle.at_value.specs.Widths as widths;
 ghost use Rattle.at_c3.specs.Merge.{order_of_lists};
-ghost use Rattle.at_world.specs.Step.{is_empty};
+ghost use Rattle.at_model.specs.Step.{is_empty};
 ghost use Rattle.at_world.specs.Plain.{lists_of, order_or_none, order_by};
 
 use at_c3::{List, MergeFault, order_of_slices};

@@ -2,13 +2,13 @@
 ghost use Rattle.std.specs.Prelude.{◌≡◌, IfOk, slice_get};
 ghost use Rattle.std.specs.Option.{option_copied};
 ghost use Rattle.at_value.specs.Pairs.{value_at};
-ghost use Rattle.at_world.specs.World as world;
-ghost use Rattle.at_world.specs.Attributes as attributes;
+ghost use Rattle.at_model.specs.World as world;
+ghost use Rattle.at_model.specs.Attributes as attributes;
 
 use super::Plain;
 use crate::lookup::{behind, find_along_order};
-use crate::rows::Object;
 use at_desc::{Three, bind_class, bind_get, bind_special};
+use at_model::Object;
 use at_value::{Class, ClassList, Name, Obj, Reply, Value};
 use std::alloc::AllocError;
 

@@ -3,18 +3,18 @@ ghost use Rattle.std.specs.Prelude.{◌≡◌, ◌&&◌, ◌<◌, ◌^◌, ◌�
 ghost use Rattle.std.specs.List.{list_any, list_all};
 ghost use Rattle.std.specs.Option.{option_copied};
 ghost use Rattle.at_value.specs.Widths as widths;
-ghost use Rattle.at_world.specs.World as world;
-ghost use Rattle.at_world.specs.Step as steps;
+ghost use Rattle.at_model.specs.World as world;
+ghost use Rattle.at_model.specs.Step as steps;
 ghost use Rattle.at_world.specs.Plain.{AreOrders, lists_of};
-ghost use Rattle.at_world.specs.Step.{is_empty};
+ghost use Rattle.at_model.specs.Step.{is_empty};
 ghost use Rattle.at_world.specs.Rebasing.{rebased, AreNewOrders, AreRenewed, is_due, due_row, first_empty};
 
 use super::classes::has_duplicate;
 use super::orders::{copies_of, is_empty_at, longest_len, order_or_empty, put_order};
 use super::{CLASSES, Plain};
 use crate::lookup::class_row;
-use crate::rows::ClassRow;
 use at_c3::List;
+use at_model::ClassRow;
 use at_value::{Bases, Class, Reply};
 use std::alloc::{AllocError, Global};
 

@@ -1,9 +1,10 @@
 //! Runs of scripts in which one line is changed. Each is then no run of its script any more, or isn't legal.
 use super::judging::{Breaks, broken_by, told};
-use crate::plain_run::run_main;
+use at_line::{Line, LineOp, LineReply, Local, Ran, What};
+use at_run::run_main;
 use at_script::{Block, Script, read};
 use at_value::{Class, Func, HookKind, Name, Obj, Op, Path, Place, Reply, Value};
-use at_world::{Line, LineOp, LineReply, Local, Plain, Ran, What};
+use at_world::Plain;
 use std::alloc::Global;
 use std::process::Abort;
 use std::test::Fail;

@@ -1,8 +1,10 @@
 //! Whether lines are a run of a script, and whether they are legal, as the code decides whose contracts are the
 //! definitions: the thread that runs a script, and the data model.
-use at_script::{Block, Demand, Script, Stmt, Thread, Use};
+use at_line::{Line, LineOp, LineReply, Local, What};
+use at_script::{Block, Script, Stmt};
+use at_thread::{Demand, Thread, Use};
 use at_value::{Op, Path, Value};
-use at_world::{Line, LineOp, LineReply, Local, Plain, What};
+use at_world::Plain;
 use std::alloc::{AllocError, Global};
 use std::test::Fail;
 

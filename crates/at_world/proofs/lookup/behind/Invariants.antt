@@ -1,5 +1,5 @@
 use Rattle.std.proofs.Common.{◌≡◌, drop}
-use Rattle.at_world.specs.Attributes.{behind}
+use Rattle.at_model.specs.Attributes.{behind}
 use Rattle.at_world.proofs.lookup.behind.Given as goal
 
 -- the numbers that are left give the answer

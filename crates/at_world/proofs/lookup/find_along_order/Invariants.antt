@@ -1,5 +1,5 @@
 use Rattle.std.proofs.Common.{◌≡◌, drop}
-use Rattle.at_world.specs.World.{find_along}
+use Rattle.at_model.specs.World.{find_along}
 use Rattle.at_world.proofs.lookup.find_along_order.Given as goal
 
 -- the classes that are left give the value

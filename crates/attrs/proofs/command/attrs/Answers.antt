@@ -1,6 +1,7 @@
-use Rattle.attrs.specs.PlainRun.{IsPlainRun, IsLegalRun}
+use Rattle.at_run.specs.PlainRun.{IsPlainRun}
+use Rattle.at_run.specs.LegalRun.{IsLegalRun}
 use Rattle.attrs.proofs.Answered.{answer_so}
-use Rattle.attrs.proofs.Legals.{plain_is_legal}
+use Rattle.at_run.proofs.Legals.{plain_is_legal}
 use Rattle.attrs.proofs.MainAlone.{main_alone}
 use Rattle.attrs.proofs.command.attrs.Goals as goal
 

@@ -1,6 +1,6 @@
 use Rattle.std.proofs.Common.{ap, sym, subst, arith, List, ℕ, length, Err}
 use Rattle.at_source.specs.Whole.{GaveAll}
-use Rattle.attrs.specs.PlainRun.{IsPlainRun}
+use Rattle.at_run.specs.PlainRun.{IsPlainRun}
 use Rattle.attrs.proofs.Answered.{answered}
 use Rattle.attrs.proofs.command.plain_text.Goals as goal
 

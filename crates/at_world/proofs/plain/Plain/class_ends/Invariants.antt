@@ -1,5 +1,5 @@
 use Rattle.std.proofs.Common.{◌≡◌, ◌++◌, drop}
-use Rattle.at_world.specs.Final.{class_ends}
+use Rattle.at_model.specs.Final.{class_ends}
 use Rattle.at_world.proofs.plain.Plain.class_ends.Given as goal
 
 -- the ends so far, and those of the classes that are left

@@ -1,9 +1,10 @@
 use Rattle.std.proofs.Common.{◌≡◌, ap, sym, subst, arith, length, set, None, Some, Err}
 use Rattle.at_value.specs.declared.reply.Reply.TheVariants as replies
 use Rattle.at_value.specs.Widths as widths
-use Rattle.at_world.specs.World.{row_of, order_of}
-use Rattle.at_world.specs.Step.{with_class, if_ordered}
-use Rattle.at_world.specs.Plain.{State, AreOrders, lists_of}
+use Rattle.at_model.specs.World.{row_of, order_of}
+use Rattle.at_model.specs.Step.{with_class, if_ordered}
+use Rattle.at_model.specs.StoredOrders.{AreOrders}
+use Rattle.at_world.specs.Plain.{State, lists_of}
 use Rattle.at_world.proofs.Definitions.{kept_defined, defined_state, refused_state}
 use Rattle.at_world.proofs.plain.Plain.define.Goals as goal
 

@@ -1,5 +1,5 @@
 use Rattle.std.proofs.Common.{◌≡◌, map, take}
-use Rattle.at_world.specs.Final.{object_end}
+use Rattle.at_model.specs.Final.{object_end}
 use Rattle.at_world.proofs.plain.Plain.object_ends.Given as goal
 
 -- the objects so far

@@ -1,8 +1,8 @@
 use Rattle.std.proofs.Common.{◌≡◌, ◌∙◌, ◌<◌, ap, sym, subst, arith, length, map, get_or, [], None, IsTrue}
 use Rattle.std.proofs.lemmas.Result.{IfOk-weaker}
 use Rattle.at_c3.specs.Merge.{order_of_lists}
-use Rattle.at_world.specs.World.{row_of, order_of}
-use Rattle.at_world.specs.Step.{are_made, with_class}
+use Rattle.at_model.specs.World.{row_of, order_of}
+use Rattle.at_model.specs.Step.{are_made, with_class}
 use Rattle.at_world.specs.Plain.{State, lists_of}
 use Rattle.at_world.proofs.Definitions.{gathered_order}
 use Rattle.at_world.proofs.plain.Plain.order_with.Goals as goal

@@ -2,9 +2,9 @@ use Rattle.std.proofs.Common.{◌≡◌, ◌∙◌, ◌∷◌, ◌++◌, ap, sym
 use Rattle.std.proofs.lemmas.List.{length-map}
 use Rattle.smallvec.specs.SmallVec.{SmallVec}
 use Rattle.at_value.specs.declared.reply.Reply.TheVariants as replies
-use Rattle.at_world.specs.declared.rows.ClassRow.{ClassRow}
-use Rattle.at_world.specs.World.{row_of}
-use Rattle.at_world.specs.Step.{are_made, if_ordered, with_bases}
+use Rattle.at_model.specs.declared.rows.ClassRow.{ClassRow}
+use Rattle.at_model.specs.World.{row_of}
+use Rattle.at_model.specs.Step.{are_made, if_ordered, with_bases}
 use Rattle.at_world.specs.Plain.{State, lists_of}
 use Rattle.at_world.specs.Rebasing.{rebased, AreNewOrders, first_empty}
 use Rattle.at_world.proofs.Definitions.{refilled}

@@ -1,7 +1,7 @@
 use Rattle.std.proofs.Common.{◌∙◌, ap, sym, length}
 use Rattle.at_value.specs.Pairs.{with_value}
-use Rattle.at_world.specs.World.{row_of, own_of}
-use Rattle.at_world.specs.Step.{with_names}
+use Rattle.at_model.specs.World.{row_of, own_of}
+use Rattle.at_model.specs.Step.{with_names}
 use Rattle.at_world.proofs.Definitions.{kept_names, refilled}
 use Rattle.at_world.proofs.plain.Plain.type_set.Goals as goal
 

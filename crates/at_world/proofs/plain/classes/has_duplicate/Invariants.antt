@@ -1,5 +1,5 @@
 use Rattle.std.proofs.Common.{◌≡◌, drop}
-use Rattle.at_world.specs.Step.{has_repeat}
+use Rattle.at_model.specs.Step.{has_repeat}
 use Rattle.at_world.proofs.plain.classes.has_duplicate.Given as goal
 
 -- the classes that are left give the answer

@@ -1,5 +1,0 @@
-use Rattle.at_core.proofs.Joins.{join_sees_both}
-use Rattle.at_core.proofs.laws.joins_see_both.Goals as goal
-
-pub returns : goal.returns
-returns c = join_sees_both

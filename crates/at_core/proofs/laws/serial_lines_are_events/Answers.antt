@@ -1,5 +1,0 @@
-use Rattle.at_core.proofs.OneThread.{serial_events}
-use Rattle.at_core.proofs.laws.serial_lines_are_events.Goals as goal
-
-pub returns : goal.returns
-returns c = serial_events

@@ -1,0 +1,125 @@
+-- Whole events: each operation is done at one moment, at the end of the history so far, by one of the live views. A view
+-- stands for a pass, and has seen a front of the history.
+use Rattle.std.specs.Prelude.{ℕ, ◌≡◌, ◌≢◌, ◌+◌, ◌==◌, nat_lt, false, IsTrue, List, [], ◌∷◌, ◌++◌, length, map, set, count_by, Option, Some, None, IsSome, slice_index_or, if◌then◌else◌}
+use Rattle.at_value.specs.declared.operation.Op as op
+use Rattle.at_value.specs.declared.reply.Path.TheVariants as paths
+use Rattle.at_line.specs.declared.line.Line.{Line}
+use Rattle.at_line.specs.declared.line.LineOp.TheVariants as line_ops
+use Rattle.at_line.specs.declared.line.LineReply.TheVariants as line_replies
+use Rattle.at_line.specs.declared.line.What as what
+use Rattle.at_line.specs.declared.line.What.TheVariants as whats
+use Rattle.at_model.specs.Step.{step, is_write}
+use Rattle.at_model.specs.History.{replay}
+use Rattle.at_view.specs.declared.View.{View}
+
+-- the history of writes, and the views by number, none where a view is spent; a new view has the next number, so that no
+-- number is used again
+pub record State : Type 0 where
+  pub history : List op.Op
+  pub views : List (Option View)
+
+pub data Event : Type 0 where
+  -- a new view splits off this one
+  split : ℕ → Event
+  -- the first view takes in the second
+  join : ℕ → ℕ → Event
+  -- the view does an operation that is no write, or one that is
+  read : ℕ → op.Op → Event
+  write : ℕ → op.Op → Event
+
+-- at first there is one view, which has seen nothing and has no place of its own
+abbrev pub first_state : State
+first_state = record { history = []; views = Some (record { number = 0; seen = []; own = [] }) ∷ [] }
+
+-- the view of this number, where it is live
+abbrev pub view_of : State → ℕ → Option View
+view_of s v = slice_index_or s.views v None
+
+abbrev pub IsLive : State → ℕ → Type 0
+IsLive s v = IsSome (view_of s v)
+
+-- Views that change
+
+-- the longer of two fronts of the history
+abbrev pub longer : List op.Op → List op.Op → List op.Op
+longer first second = if nat_lt (length first) (length second) then second else first
+
+-- a new view, which has seen what the other has and has no place of its own
+abbrev pub split_off : ℕ → View → View
+split_off number view = record { number = number; seen = view.seen; own = [] }
+
+-- a view that takes in another has seen what either has, and the places of both are its own
+abbrev pub joined : View → View → View
+joined view other = record view { seen = longer view.seen other.seen; own = view.own ++ other.own }
+
+abbrev pub has_read : List op.Op → View → View
+has_read history view = record view { seen = history }
+
+-- a view that has written has seen the history with its write, whose place is its own
+abbrev pub has_written : List op.Op → View → View
+has_written history view = record view { seen = history; own = view.own ++ length history ∷ [] }
+
+-- Events
+
+-- An event is enabled where its views are live; a join takes in another view, a read's operation is no write after the
+-- history, and a write's is one.
+abbrev pub IsEnabled : State → Event → Type 0
+IsEnabled s (split v) = IsLive s v
+IsEnabled s (join v other) = IsLive s v × IsLive s other × (v ≢ other)
+IsEnabled s (read v operation) = IsLive s v × (is_write (replay s.history) operation ≡ false)
+IsEnabled s (write v operation) = IsLive s v × IsTrue (is_write (replay s.history) operation)
+
+abbrev pub option_join : Option View → Option View → Option View
+option_join (Some view) (Some other) = Some (joined view other)
+option_join view other = view
+
+abbrev pub option_change : (View → View) → Option View → Option View
+option_change change None = None
+option_change change (Some view) = Some (change view)
+
+-- the views in which one has changed
+abbrev pub with_view : State → ℕ → (View → View) → List (Option View)
+with_view s v change = set s.views v (option_change change (view_of s v))
+
+-- the history with one operation more
+abbrev pub grown : State → op.Op → List op.Op
+grown s operation = s.history ++ operation ∷ []
+
+-- the state after an event
+abbrev pub after_event : State → Event → State
+after_event s (split v) = record s { views = s.views ++ option_change (split_off (length s.views)) (view_of s v) ∷ [] }
+after_event s (join v other) = record s { views = set (set s.views v (option_join (view_of s v) (view_of s other))) other None }
+after_event s (read v operation) = record s { views = with_view s v (has_read s.history) }
+after_event s (write v operation) = record { history = grown s operation; views = with_view s v (has_written (grown s operation)) }
+
+-- what a view did at a place, with the reply of the data model after the history
+abbrev pub did : State → ℕ → op.Op → what.What
+did s place operation = whats.Did (record { 0 = place }) paths.Locked (line_ops.Of operation) (line_replies.Of (step (replay s.history) operation).reply)
+
+-- What an event writes down, with its view: a read at the end of the history, a write at its new end.
+abbrev pub said_by : State → Event → List (ℕ × what.What)
+said_by s (split v) = []
+said_by s (join v other) = []
+said_by s (read v operation) = (v, did s (length s.history) operation) ∷ []
+said_by s (write v operation) = (v, did s (length (grown s operation)) operation) ∷ []
+
+-- These events, each of them enabled, lead from the first state to the last, and write this down.
+abbrev pub IsEventRun : State → List Event → List (ℕ × what.What) → State → Type 0
+IsEventRun s [] said last = (said ≡ []) × (s ≡ last)
+IsEventRun s (event ∷ events) said last = IsEnabled s event × (rest : List (ℕ × what.What)) × (said ≡ said_by s event ++ rest) × IsEventRun (after_event s event) events rest last
+
+-- the lines are these, with the views in the place of threads, whatever their numbers
+abbrev pub view_and_what : Line → ℕ × what.What
+view_and_what line = (line.thread, line.what)
+
+abbrev pub AreLinesOf : List (ℕ × what.What) → List Line → Type 0
+AreLinesOf said lines = map view_and_what lines ≡ said
+
+-- how often a place is a live view's own, over all live views
+abbrev pub own_count : ℕ → Option View → ℕ
+own_count place None = 0
+own_count place (Some view) = count_by (λ own. own == place) view.own
+
+abbrev pub owner_count : ℕ → List (Option View) → ℕ
+owner_count place [] = 0
+owner_count place (view ∷ views) = own_count place view + owner_count place views

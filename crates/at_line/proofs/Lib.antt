@@ -1,0 +1,4 @@
+pub mod Histories
+pub mod Serials
+mod KeptSections
+mod LineChecks

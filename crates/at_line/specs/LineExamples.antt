@@ -1,0 +1,143 @@
+-- A legal list of lines, and lists that differ from it in one line and aren't legal.
+use Rattle.std.specs.Prelude.{ℕ, pos, List, [], ◌∷◌, None, set}
+use Rattle.at_value.specs.declared.limits.Limits.{Limits}
+use Rattle.at_value.specs.declared.value.Value.TheVariants as values
+use Rattle.at_value.specs.declared.operation.Op as op
+use Rattle.at_value.specs.declared.operation.Op.TheVariants as ops
+use Rattle.at_value.specs.declared.reply.Reply as reply
+use Rattle.at_value.specs.declared.reply.Reply.TheVariants as replies
+use Rattle.at_value.specs.declared.reply.Path as path
+use Rattle.at_value.specs.declared.reply.Path.TheVariants as paths
+use Rattle.at_line.specs.declared.line.Line.{Line}
+use Rattle.at_line.specs.declared.line.LineOp.TheVariants as line_ops
+use Rattle.at_line.specs.declared.line.LineReply.TheVariants as line_replies
+use Rattle.at_line.specs.declared.line.Local.TheVariants as locals
+use Rattle.at_line.specs.declared.line.What as what
+use Rattle.at_line.specs.declared.line.What.TheVariants as whats
+use Rattle.at_line.specs.Lines.{main_thread, finally_thread}
+
+abbrev pub example_limits : Limits
+example_limits = record { place_max = 4; head_max = 6; tags = 3 }
+
+-- what stands in the lines
+
+abbrev pub does_by : path.Path → ℕ → op.Op → reply.Reply → what.What
+does_by way place operation said = whats.Did (record { 0 = place }) way (line_ops.Of operation) (line_replies.Of said)
+
+abbrev pub does : ℕ → op.Op → reply.Reply → what.What
+does place operation said = does_by paths.Locked place operation said
+
+-- object 0 reads its attributes 5 and 6, and is written 7 and 8
+abbrev pub gets_five : op.Op
+gets_five = ops.Get 0 5
+
+abbrev pub gets_six : op.Op
+gets_six = ops.Get 0 6
+
+abbrev pub sets_five : op.Op
+sets_five = ops.Set 0 5 (values.Int (pos 7))
+
+abbrev pub sets_six : op.Op
+sets_six = ops.Set 0 6 (values.Int (pos 8))
+
+abbrev pub makes_class : op.Op
+makes_class = ops.NewClass 1 (0 ∷ [])
+
+abbrev pub seven : reply.Reply
+seven = replies.Value (values.Int (pos 7))
+
+abbrev pub eight : reply.Reply
+eight = replies.Value (values.Int (pos 8))
+
+abbrev pub line_in : ℕ → ℕ → what.What → Line
+line_in thread number w = record { what = w; number = number; thread = thread }
+
+-- `main` makes a class and an object, and a section over it; two threads write and read the object, and the second names
+-- both limits; `finally` reads it.
+abbrev pub legal_lines : List Line
+legal_lines =
+    line_in main_thread 1 (does 1 makes_class replies.Done)
+    ∷ line_in main_thread 2 (does 2 (ops.New 1) (replies.Made 0 None))
+    ∷ line_in main_thread 3 (whats.Did (record { 0 = 2 }) paths.Locked (line_ops.Begin 0 None) (line_replies.Of replies.Done))
+    ∷ line_in main_thread 4 (whats.Did (record { 0 = 2 }) paths.Locked line_ops.Finish line_replies.Kept)
+    ∷ line_in 1 1 (does 3 sets_five replies.Done)
+    ∷ line_in 1 2 (does 4 gets_six eight)
+    ∷ line_in 2 1 (does 2 gets_five replies.NoAttr)
+    ∷ line_in 2 2 (does 4 sets_six replies.Done)
+    ∷ line_in 2 3 (whats.Local (locals.Full 4))
+    ∷ line_in 2 4 (whats.Local (locals.Worn 6))
+    ∷ line_in finally_thread 1 (does 4 gets_five seven)
+    ∷ []
+
+abbrev pub legal_history : List op.Op
+legal_history = makes_class ∷ ops.New 1 ∷ sets_five ∷ sets_six ∷ []
+
+-- Lists that aren't legal
+
+-- the second thread writes at a place that the first has written
+abbrev pub place_twice : List Line
+place_twice = set legal_lines 7 (line_in 2 2 (does 3 sets_six replies.Done))
+
+-- no write stands at place 4
+abbrev pub place_left_out : List Line
+place_left_out = set legal_lines 7 (line_in 2 2 (does 5 sets_six replies.Done))
+
+-- the new object has another number
+abbrev pub other_object_made : List Line
+other_object_made = set legal_lines 1 (line_in main_thread 2 (does 2 (ops.New 1) (replies.Made 1 None)))
+
+-- a write of an object that isn't made, which says that it was done, and the history with it
+abbrev pub sets_no_object : op.Op
+sets_no_object = ops.Set 1 5 (values.Int (pos 7))
+
+abbrev pub refused_write_done : List Line
+refused_write_done = set legal_lines 4 (line_in 1 1 (does 3 sets_no_object replies.Done))
+
+abbrev pub refused_write_history : List op.Op
+refused_write_history = set legal_history 2 sets_no_object
+
+-- a read past the last write
+abbrev pub read_past_the_end : List Line
+read_past_the_end = set legal_lines 5 (line_in 1 2 (does 5 gets_six eight))
+
+-- a read with the reply of the place before
+abbrev pub reply_of_the_place_before : List Line
+reply_of_the_place_before = set legal_lines 5 (line_in 1 2 (does 4 gets_six replies.NoAttr))
+
+-- `main` gives its section back
+abbrev pub suspended_in_main : List Line
+suspended_in_main = set legal_lines 3 (line_in main_thread 4 (whats.Did (record { 0 = 2 }) paths.Locked line_ops.Finish (line_replies.Suspended 1)))
+
+-- the first thread writes at place 3 and then reads at place 2
+abbrev pub place_falls : List Line
+place_falls = set legal_lines 5 (line_in 1 2 (does 2 gets_six replies.NoAttr))
+
+-- the second thread reads at the place at which it then writes
+abbrev pub write_at_a_place_read : List Line
+write_at_a_place_read = set legal_lines 6 (line_in 2 1 (does 4 gets_five seven))
+
+-- a thread reads at a place below the last of `main`
+abbrev pub thread_before_main : List Line
+thread_before_main = set legal_lines 6 (line_in 2 1 (does 1 gets_five replies.NoAttr))
+
+-- `finally` reads at a place below the last of a thread
+abbrev pub finally_before_thread : List Line
+finally_before_thread = set legal_lines 10 (line_in finally_thread 1 (does 3 gets_five seven))
+
+-- `full` below the limit, and above the count of writes
+abbrev pub full_too_early : List Line
+full_too_early = set legal_lines 8 (line_in 2 3 (whats.Local (locals.Full 3)))
+
+abbrev pub full_past_the_end : List Line
+full_past_the_end = set legal_lines 8 (line_in 2 3 (whats.Local (locals.Full 5)))
+
+-- `worn` below the limit, and above what the lines can have brought about
+abbrev pub worn_too_early : List Line
+worn_too_early = set legal_lines 9 (line_in 2 4 (whats.Local (locals.Worn 4)))
+
+abbrev pub worn_too_far : List Line
+worn_too_far = set legal_lines 9 (line_in 2 4 (whats.Local (locals.Worn 46)))
+
+-- a read that went the fast way
+abbrev pub read_without_locks : List Line
+read_without_locks = set legal_lines 10 (line_in finally_thread 1 (does_by paths.Fast 4 gets_five seven))

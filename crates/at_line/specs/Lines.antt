@@ -1,0 +1,62 @@
+-- The lines of a run: which of them are writes, and the history that their writes make.
+use Rattle.std.specs.Prelude.{ℕ, zero, suc, ◌≡◌, ◌==◌, Bool, false, List, [], ◌∷◌, ◌++◌, length, option_to_list, if◌then◌else◌, slice_get}
+use Rattle.at_value.specs.declared.operation.Op as op
+use Rattle.at_line.specs.declared.line.Line.{Line}
+use Rattle.at_line.specs.declared.line.LineOp.TheVariants as line_ops
+use Rattle.at_line.specs.declared.line.LineReply as line_reply
+use Rattle.at_line.specs.declared.line.LineReply.TheVariants as line_replies
+use Rattle.at_line.specs.declared.line.What as what
+use Rattle.at_line.specs.declared.line.What.TheVariants as whats
+use Rattle.at_model.specs.Step.{is_done}
+
+-- The threads of lines: `main` is thread 0, 1 to 32 are the threads of the script, and `finally` is thread 33.
+abbrev pub main_thread : ℕ
+main_thread = 0
+
+abbrev pub finally_thread : ℕ
+finally_thread = 33
+
+abbrev pub what_of : Line → what.What
+what_of line = line.what
+
+-- Writes
+
+-- the reply of a write: `Done`, or `Made`
+abbrev pub is_write_reply : line_reply.LineReply → Bool
+is_write_reply (line_replies.Of reply) = is_done reply
+is_write_reply reply = false
+
+-- A line is a write where it is of an operation and has the reply of a write. The begin and the end of a section change
+-- no world and are no writes, and a local line is none.
+abbrev pub is_write_line : what.What → Bool
+is_write_line (whats.Did place path (line_ops.Of operation) reply) = is_write_reply reply
+is_write_line w = false
+
+-- the place and the operation of a write, and nothing of another line
+abbrev pub write_in : what.What → List (ℕ × op.Op)
+write_in (whats.Did place path (line_ops.Of operation) reply) = if is_write_reply reply then (place.0, operation) ∷ [] else []
+write_in w = []
+
+abbrev pub writes : List Line → List (ℕ × op.Op)
+writes [] = []
+writes (line ∷ lines) = write_in line.what ++ writes lines
+
+abbrev pub write_count : List Line → ℕ
+write_count lines = length (writes lines)
+
+-- The history
+
+-- the operations of the writes at a place
+abbrev pub operations_at : ℕ → List (ℕ × op.Op) → List op.Op
+operations_at place [] = []
+operations_at place (write ∷ more) = if write.0 == place then write.1 ∷ operations_at place more else operations_at place more
+
+-- what a history has at a place; its places count from 1
+abbrev pub history_at : ℕ → List op.Op → List op.Op
+history_at zero history = []
+history_at (suc before) history = option_to_list (slice_get history before)
+
+-- The places of the writes are 1, 2 and so on up to their count, each once, and the history is the list of their
+-- operations by place: at each place the writes have what the history has there.
+abbrev pub IsHistory : List Line → List op.Op → Type 0
+IsHistory lines history = (place : ℕ) → operations_at place (writes lines) ≡ history_at place history

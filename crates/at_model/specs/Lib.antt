@@ -1,0 +1,7 @@
+pub mod World
+pub mod Attributes
+pub mod Step
+pub mod History
+pub mod Final
+pub mod StoredOrders
+pub mod Laws

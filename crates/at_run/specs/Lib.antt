@@ -1,0 +1,4 @@
+pub mod LegalRun
+pub mod PlainRun
+pub mod Turns
+pub mod Laws

@@ -1,0 +1,133 @@
+//! Running the block `main` of a script on the plain data model.
+ghost use Rattle.std.specs.Prelude.{◌≡◌, ◌+◌, ◌*◌, ◌≤◌, [], None, length, replicate, IfOk, List};
+ghost use Rattle.at_line.specs.declared.line.What as what;
+ghost use Rattle.at_thread.specs.Threads.{state_of};
+ghost use Rattle.at_thread.specs.Execution as execution;
+ghost use Rattle.at_thread.specs.Executions.{Answers};
+ghost use Rattle.at_thread.specs.Runs.{numbered};
+ghost use Rattle.at_model.specs.World.{opening};
+ghost use Rattle.at_run.specs.PlainRun.{IsPlainRun, IsPlain};
+ghost use Rattle.at_run.specs.Turns.{Tells, Moves, TellsIn, Leading};
+
+use at_line::{Line, LineOp, LineReply, Ran, What};
+use at_script::{Block, Script, Stmt};
+use at_thread::{Demand, Thread, Use};
+use at_value::{Path, Reply, Sequence, Value};
+use at_world::Plain;
+use std::alloc::{AllocError, Global};
+
+/// What a turn of a thread came to.
+enum Turn {
+    /// The thread has ended.
+    Ended,
+    /// Nothing to tell.
+    Silent,
+    /// A line.
+    Says(What),
+}
+
+/// The thread number of `main`.
+const MAIN: u8 = 0;
+
+/// Runs the block `main` of a script from the opening world on, each path `Locked`. The script has no other blocks to run.
+pub fn run_main(alloc: Global, script: &Script) -> Result<Ran, AllocError>
+    requires { (script.now.threads ≡ []) × (script.now.finally ≡ None) }
+    ensures { IfOk result (λ ran. IsPlainRun script.now ran.lines ran.last) }
+{
+    let mut plain = Plain::new(alloc)?;
+    let lines = run_block(alloc, &mut plain, script)?;
+    let last = plain.last()?;
+    Ok(Ran {
+        lines: Sequence::of(lines),
+        last,
+    })
+}
+
+/// Runs the block `main` to its end: its lines.
+fn run_block(alloc: Global, plain: &mut Plain, script: &Script) -> Result<Vec<Line>, AllocError>
+    requires { plain.old ≡ record { world = opening; place = 0 } }
+    ensures { IfOk result (λ lines. (says : List what.What) × (end : execution.State) × (lines.items ≡ numbered 0 1 says) × (execution.next_of script.now end ≡ execution.ended) × Leading script.now (execution.start script.now.main (replicate (length script.now.vars) None)) says end plain.new) }
+{
+    let variables = unbound(alloc, script.vars())?;
+    let mut thread = Thread::new(alloc, statements_of_main(script), variables)?;
+    let mut lines = Vec::with_capacity(alloc, most_lines(script))?;
+    loop {
+        match take_turn(plain, script, &mut thread)? {
+            Turn::Ended => return Ok(lines),
+            Turn::Silent => {}
+            Turn::Says(what) => {
+                let number = lines.len() as u32 + 1;
+                lines.push_reserved(Line {
+                    what,
+                    number,
+                    thread: MAIN,
+                });
+            }
+        }
+    }
+}
+
+/// The statements of `main`.
+fn statements_of_main(script: &Script) -> &[Stmt]
+    ensures { result.now ≡ script.now.main }
+{
+    match script.block(Block::Main) {
+        Some(statements) => statements,
+        None => &[],
+    }
+}
+
+/// So many variables, none of which is bound.
+fn unbound(alloc: Global, count: usize) -> Result<Vec<Option<Value>>, AllocError>
+    ensures { IfOk result (λ variables. variables.items ≡ replicate count None) }
+{
+    vec![in alloc; None; count]
+}
+
+/// How many lines a thread has at most: two a statement, and one more.
+fn most_lines(script: &Script) -> usize
+    ensures same { result ≡ 2 * script.now.budget + 1 }
+    ensures most { result ≤ 200001 }
+{
+    2 * script.budget() as usize + 1
+}
+
+/// One turn of a thread.
+fn take_turn<'a>(
+    plain: &mut Plain,
+    script: &'a Script,
+    thread: &mut Thread<'a>,
+) -> Result<Turn, AllocError>
+    ensures moves { IfOk result (λ turn. Moves script.now (state_of thread.old) turn (state_of thread.new)) }
+    ensures tells { IfOk result (λ turn. TellsIn plain.old turn plain.new) }
+{
+    match thread.next(script) {
+        Demand::Ended => Ok(Turn::Ended),
+        Demand::Silent => Ok(Turn::Silent),
+        Demand::Says(local) => Ok(Turn::Says(What::Local(local))),
+        Demand::Asks(op, used) => Ok(Turn::Says(did(plain, thread, &op, &used)?)),
+    }
+}
+
+/// Does the operation that a thread asks for: what its line says.
+fn did(plain: &mut Plain, thread: &mut Thread, op: &LineOp, used: &Use) -> Result<What, AllocError>
+    ensures answers { IfOk result (λ what. Answers (λ t. t ≡ state_of thread.new) op.now used.now (state_of thread.old) what) }
+    ensures tells { IfOk result (λ what. Tells plain.old what plain.new × IsPlain what) }
+{
+    let reply = match op {
+        LineOp::Of(operation) => {
+            let reply = plain.apply(operation)?;
+            thread.accept(used, &reply);
+            LineReply::Of(reply)
+        }
+        LineOp::Begin(_, _) => {
+            thread.accept(used, &Reply::Done);
+            LineReply::Of(Reply::Done)
+        }
+        LineOp::Finish => {
+            thread.accept(used, &Reply::Done);
+            LineReply::Kept
+        }
+    };
+    Ok(What::Did(plain.place(), Path::Locked, *op, reply))
+}

@@ -1,0 +1,88 @@
+-- Executions that are told the same are the same.
+use Rattle.std.proofs.Common.{◌≡◌, ◌∙◌, refl, sym, ap, subst, ℕ, zero, suc, true, List, [], ◌∷◌, ◌++◌, Option, Some, None}
+use Rattle.at_value.specs.declared.reply.Reply as reply
+use Rattle.at_line.specs.declared.line.LineOp as line_op
+use Rattle.at_line.specs.declared.line.LineOp.TheVariants as line_ops
+use Rattle.at_line.specs.declared.line.Local as local
+use Rattle.at_line.specs.declared.line.Local.TheVariants as locals
+use Rattle.at_line.specs.declared.line.What as what
+use Rattle.at_line.specs.declared.line.What.TheVariants as whats
+use Rattle.at_script.specs.Parts.{Parts}
+use Rattle.at_thread.specs.Execution.{State, Next, ended, silent, says, asks, dropped, taken, next_of}
+use Rattle.at_thread.specs.Executions.{reply_taken, stands_for, TakesReply, Fits, Leads, IsExecution}
+use Rattle.at_thread.specs.Laws.{Told, replied, declined, told_by, all_told}
+
+-- a line that stands in the place of an operation is told
+told_declined : (o : line_op.LineOp) (l : local.Local) → stands_for o l ≡ true → told_by (whats.Local l) ≡ declined l ∷ []
+told_declined o (locals.Full place) e = refl
+told_declined o (locals.Worn sequence) e = refl
+told_declined (line_ops.Of o) l e = cc
+told_declined (line_ops.Begin a b) l e = cc
+told_declined line_ops.Finish l e = cc
+
+same_rest : (w : what.What) (xs ys : List Told) → told_by w ++ xs ≡ told_by w ++ ys → xs ≡ ys
+same_rest (whats.Did place path o r) xs ys e = cc
+same_rest (whats.Local (locals.Full place)) xs ys e = cc
+same_rest (whats.Local (locals.Worn sequence)) xs ys e = cc
+same_rest (whats.Local l) xs ys e = e
+
+-- what two executions that are told the same agree on
+abbrev pub Alike : List what.What → List what.What → State → State → Type 0
+Alike first second t u = (first ≡ second) × (t ≡ u)
+
+module _ (t u : State) (on off : State → List what.What → Type 0) (same : (s : State) (first second : List what.What) → on s first → off s second → all_told first ≡ all_told second → Alike first second t u) where
+  with_head : (w : what.What) (s : State) (first second : List what.What) → on s first → off s second → all_told (w ∷ first) ≡ all_told (w ∷ second) → Alike (w ∷ first) (w ∷ second) t u
+  with_head w s first second f g e =
+      let k = same s first second f g (same_rest w (all_told first) (all_told second) e) in
+      (ap (λ rest. w ∷ rest) k.0, k.1)
+
+  both : (next : Next) (first second : List what.What) → Fits on next first → Fits off next second → all_told first ≡ all_told second → Alike first second t u
+  both ended first second f g e = absurd f
+  both (silent s) first second f g e = same s first second f g e
+  both (says l s) [] second f g e = absurd f
+  both (says l s) (w ∷ first) [] f g e = absurd g
+  both (says l s) (w ∷ first) (v ∷ second) f g e =
+      let heads : w ≡ v = f.0 ∙ sym g.0 in
+      subst (λ (x : what.What). all_told (w ∷ first) ≡ all_told (x ∷ second) → Alike (w ∷ first) (x ∷ second) t u) heads (with_head w s first second f.1 g.1) e
+  both (asks o k s) [] second f g e = absurd f
+  both (asks o k s) (w ∷ first) [] f g e = absurd g
+  both (asks o k s) (whats.Did p a o1 r ∷ first) (whats.Did q b o2 r2 ∷ second) f g e =
+      let places : p ≡ q = cc in
+      let ways : a ≡ b = cc in
+      let replies : r ≡ r2 = cc in
+      let heads : whats.Did p a o1 r ≡ whats.Did q b o2 r2 = cc in
+      took heads (reply_taken o r) (reply_taken o r2) (ap (reply_taken o) replies) f.1 g.1
+    where
+      took : whats.Did p a o1 r ≡ whats.Did q b o2 r2 → (x y : Option reply.Reply) → x ≡ y → TakesReply (λ z. on z first) k s x → TakesReply (λ z. off z second) k s y → Alike (whats.Did p a o1 r ∷ first) (whats.Did q b o2 r2 ∷ second) t u
+      took heads None y eq l m = absurd l
+      took heads (Some x) None eq l m = absurd m
+      took heads (Some x) (Some y) eq l m =
+          let xy : x ≡ y = cc in
+          let moved : off (taken k x s) second = subst (λ (z : reply.Reply). off (taken k z s) second) (sym xy) m in
+          subst (λ (z : what.What). all_told (whats.Did p a o1 r ∷ first) ≡ all_told (z ∷ second) → Alike (whats.Did p a o1 r ∷ first) (z ∷ second) t u) heads (with_head (whats.Did p a o1 r) (taken k x s) first second l moved) e
+  both (asks o k s) (whats.Did p a o1 r ∷ first) (whats.Local l ∷ second) f g e =
+      absurd (subst (λ (x : List Told). replied p a r ∷ all_told first ≡ x ++ all_told second → ⊥) (sym (told_declined o l g.0)) (λ bad. cc) e)
+  both (asks o k s) (whats.Local l ∷ first) (whats.Did q b o2 r2 ∷ second) f g e =
+      absurd (subst (λ (x : List Told). x ++ all_told first ≡ replied q b r2 ∷ all_told second → ⊥) (sym (told_declined o l f.0)) (λ bad. cc) e)
+  both (asks o k s) (whats.Local l ∷ first) (whats.Local m ∷ second) f g e =
+      let there : declined l ∷ all_told first ≡ declined m ∷ all_told second = sym (ap (λ (x : List Told). x ++ all_told first) (told_declined o l f.0)) ∙ (e ∙ ap (λ (x : List Told). x ++ all_told second) (told_declined o m g.0)) in
+      let lm : l ≡ m = cc in
+      subst (λ (z : local.Local). all_told (whats.Local l ∷ first) ≡ all_told (whats.Local z ∷ second) → Alike (whats.Local l ∷ first) (whats.Local z ∷ second) t u) lm (with_head (whats.Local l) (dropped s) first second f.1 g.1) e
+
+-- nothing leads on from a state that has ended
+stays : (p : Parts) (n : ℕ) (s : State) (lines : List what.What) (u : State) → next_of p s ≡ ended → Leads p n s lines u → (lines ≡ []) × (s ≡ u)
+stays p zero s lines u e l = l
+stays p (suc n) s lines u e l = absurd (subst (λ (next : Next). Fits (λ x rest. Leads p n x rest u) next lines) e l)
+
+same_leads : (p : Parts) (n m : ℕ) (s : State) (first second : List what.What) (t u : State) → next_of p t ≡ ended → next_of p u ≡ ended → Leads p n s first t → Leads p m s second u → all_told first ≡ all_told second → Alike first second t u
+same_leads p zero m s first second t u et eu l k e =
+    let z = stays p m s second u (ap (next_of p) l.1 ∙ et) k in
+    (l.0 ∙ sym z.0, sym l.1 ∙ z.1)
+same_leads p (suc n) zero s first second t u et eu l k e =
+    let z = stays p (suc n) s first t (ap (next_of p) k.1 ∙ eu) l in
+    (z.0 ∙ sym k.0, sym z.1 ∙ k.1)
+same_leads p (suc n) (suc m) s first second t u et eu l k e =
+    both t u (λ x rest. Leads p n x rest t) (λ x rest. Leads p m x rest u) (λ x a b f g h. same_leads p n m x a b t u et eu f g h) (next_of p s) first second l k e
+
+pub determined : (p : Parts) (s t u : State) (first second : List what.What) → IsExecution p s first t → IsExecution p s second u → all_told first ≡ all_told second → (first ≡ second) × (t ≡ u)
+determined p s t u first second f g e = same_leads p f.1 g.1 s first second t u f.0 g.0 f.2 g.2 e

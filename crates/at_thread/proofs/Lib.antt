@@ -1,0 +1,6 @@
+pub mod Steps
+pub mod Saying
+pub mod Leading
+pub mod Determined
+pub mod Numbering
+pub mod Alone

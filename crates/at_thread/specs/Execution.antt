@@ -1,0 +1,280 @@
+-- How a thread executes its block: a state of frames, variables and statements begun, and what it demands next. The state
+-- demands a line that is no operation, or an operation whose reply it takes from the line, or nothing. It knows the
+-- script and no world.
+use Rattle.std.specs.Prelude.{ℕ, ◌+◌, ◌==◌, nat_le, Bool, true, false, List, [], ◌∷◌, length, Option, Some, None, Result, Ok, Err, if◌then◌else◌, slice_index_or, slice_set}
+use Rattle.at_value.specs.declared.value.Value as value
+use Rattle.at_value.specs.declared.value.Value.TheVariants as values
+use Rattle.at_value.specs.declared.operation.Op as op
+use Rattle.at_value.specs.declared.operation.Op.TheVariants as ops
+use Rattle.at_value.specs.declared.reply.Reply as reply
+use Rattle.at_value.specs.declared.reply.Reply.TheVariants as replies
+use Rattle.at_line.specs.declared.line.Local as local
+use Rattle.at_line.specs.declared.line.Local.TheVariants as locals
+use Rattle.at_line.specs.declared.line.LineOp as line_op
+use Rattle.at_line.specs.declared.line.LineOp.TheVariants as line_ops
+use Rattle.at_script.specs.declared.stmt.Stmt as stmt
+use Rattle.at_script.specs.declared.stmt.Stmt.TheVariants as stmts
+use Rattle.at_script.specs.declared.stmt.Operand as operand
+use Rattle.at_script.specs.declared.stmt.Operand.TheVariants as operands
+use Rattle.at_script.specs.declared.stmt.Target as target
+use Rattle.at_script.specs.declared.stmt.Target.TheVariants as targets
+use Rattle.at_thread.specs.declared.demand.Use as used
+use Rattle.at_thread.specs.declared.demand.Use.TheVariants as uses
+use Rattle.at_thread.specs.declared.demand.Gives as given
+use Rattle.at_thread.specs.declared.demand.Gives.TheVariants as gives
+use Rattle.at_thread.specs.declared.demand.Asked.{Asked}
+use Rattle.at_thread.specs.declared.demand.Call.{Call}
+use Rattle.at_script.specs.Parts.{Parts}
+
+-- the values of the variables by number, none where a variable isn't bound
+abbrev pub Variables : Type 0
+Variables = List (Option value.Value)
+
+-- A block or an active call: what it was called with, the statements that are left, whether a section of its own is open,
+-- and what `it` is at its end.
+pub record Frame : Type 0 where
+  pub self_arg : value.Value
+  pub other : value.Value
+  pub arg : value.Value
+  pub rest : List stmt.Stmt
+  pub opened : Bool
+  pub gives : given.Gives
+
+-- Where a thread stands: its block and active calls, the innermost first; the call that is to begin before anything else;
+-- the variables; `it`; and how many statements were begun.
+pub record State : Type 0 where
+  pub frames : List Frame
+  pub call : Option Call
+  pub variables : Variables
+  pub it : value.Value
+  pub begun : ℕ
+
+-- what a state demands, and the state that goes on
+pub data Next : Type 0 where
+  ended : Next
+  silent : State → Next
+  says : local.Local → State → Next
+  asks : line_op.LineOp → used.Use → State → Next
+
+-- Operands. They are evaluated from left to right, and the first that can't be is said.
+
+abbrev pub and_then : {A B E : Type 0} → Result A E → (A → Result B E) → Result B E
+and_then (Ok a) f = f a
+and_then (Err e) f = Err e
+
+abbrev pub bound_to : ℕ → Option value.Value → Result value.Value local.Local
+bound_to a None = Err (locals.Unbound a)
+bound_to a (Some v) = Ok v
+
+-- a variable that isn't bound has no value
+abbrev pub variable_value : Variables → ℕ → Result value.Value local.Local
+variable_value variables a = bound_to a (slice_index_or variables a None)
+
+abbrev pub operand_value : State → Frame → operand.Operand → Result value.Value local.Local
+operand_value s f (operands.Value v) = Ok v
+operand_value s f (operands.Var a) = variable_value s.variables a
+operand_value s f operands.SelfArg = Ok f.self_arg
+operand_value s f operands.Arg = Ok f.arg
+operand_value s f operands.Other = Ok f.other
+operand_value s f operands.It = Ok s.it
+
+-- an operand that may be left out is then none
+abbrev pub given_value : State → Frame → Option operand.Operand → Result value.Value local.Local
+given_value s f None = Ok values.Nothing
+given_value s f (Some v) = operand_value s f v
+
+abbrev pub target_value : State → Frame → target.Target → Result value.Value local.Local
+target_value s f (targets.Class c) = Ok (values.Class c)
+target_value s f (targets.Var a) = variable_value s.variables a
+target_value s f targets.SelfArg = Ok f.self_arg
+target_value s f targets.Arg = Ok f.arg
+target_value s f targets.Other = Ok f.other
+target_value s f targets.It = Ok s.it
+
+abbrev pub as_object : value.Value → Result ℕ local.Local
+as_object (values.Obj o) = Ok o
+as_object v = Err locals.Kind
+
+abbrev pub target_object : State → Frame → target.Target → Result ℕ local.Local
+target_object s f r = and_then (target_value s f r) as_object
+
+-- reading name x of an object or of a class
+abbrev pub read_of : value.Value → ℕ → Result op.Op local.Local
+read_of (values.Obj o) x = Ok (ops.Get o x)
+read_of (values.Class c) x = Ok (ops.TypeGet c x)
+read_of v x = Err locals.Kind
+
+abbrev pub target_read : State → Frame → target.Target → ℕ → Result op.Op local.Local
+target_read s f r x = and_then (target_value s f r) (λ v. read_of v x)
+
+-- the second object of a section, where it is another
+abbrev pub other_object : State → Frame → ℕ → Option target.Target → Result (Option ℕ) local.Local
+other_object s f o None = Ok None
+other_object s f o (Some r) = and_then (target_object s f r) (λ p. Ok (if p == o then None else Some p))
+
+-- What statements ask
+
+abbrev pub asking : op.Op → used.Use → Asked
+asking o u = record { op = line_ops.Of o; used = u }
+
+-- The operation that a statement asks for, and what its reply is used for. `let`, `return` and `checkpoint` ask for none,
+-- and the last row is that of `finish`, where its section is open.
+abbrev pub asked_by : State → Frame → stmt.Stmt → Result Asked local.Local
+asked_by s f (stmts.Class c bases) = Ok (asking (ops.NewClass c bases) uses.Ignore)
+asked_by s f (stmts.Bases c bases) = Ok (asking (ops.SetBases c bases) uses.Ignore)
+asked_by s f (stmts.Put c x v) = and_then (operand_value s f v) (λ w. Ok (asking (ops.TypeSet c x w) uses.Ignore))
+asked_by s f (stmts.Cut c x) = Ok (asking (ops.TypeDel c x) uses.Ignore)
+asked_by s f (stmts.New a c v) = and_then (given_value s f v) (λ w. Ok (asking (ops.New c) (uses.Bind a w)))
+asked_by s f (stmts.Set r x v) = and_then (target_object s f r) (λ o. and_then (operand_value s f v) (λ w. Ok (asking (ops.Set o x w) uses.Write)))
+asked_by s f (stmts.Del r x) = and_then (target_object s f r) (λ o. Ok (asking (ops.Del o x) uses.Write))
+asked_by s f (stmts.Get r x) = and_then (target_read s f r x) (λ o. Ok (asking o uses.Read))
+asked_by s f (stmts.Turn r c) = and_then (target_object s f r) (λ o. Ok (asking (ops.SetClass o c) uses.Ignore))
+asked_by s f (stmts.Share r q) = and_then (target_object s f r) (λ o. and_then (target_object s f q) (λ p. Ok (asking (ops.Share o p) uses.Ignore)))
+asked_by s f (stmts.Super c r x) = and_then (target_object s f r) (λ o. Ok (asking (ops.Super c o x) uses.Read))
+asked_by s f (stmts.Special r x) = and_then (target_object s f r) (λ o. Ok (asking (ops.Special o x) uses.Read))
+asked_by s f (stmts.ClassOf r) = and_then (target_object s f r) (λ o. Ok (asking (ops.ClassOf o) uses.Learn))
+asked_by s f (stmts.Mro c) = Ok (asking (ops.Mro c) uses.Ignore)
+asked_by s f (stmts.Call r x v) = and_then (target_read s f r x) (λ o. and_then (given_value s f v) (λ w. Ok (asking o (uses.Call w))))
+asked_by s f (stmts.CallSuper c r x v) = and_then (target_object s f r) (λ o. and_then (given_value s f v) (λ w. Ok (asking (ops.Super c o x) (uses.Call w))))
+asked_by s f (stmts.Begin r q) = and_then (target_object s f r) (λ o. and_then (other_object s f o q) (λ p. Ok (record { op = line_ops.Begin o p; used = uses.Open })))
+asked_by s f t = Ok (record { op = line_ops.Finish; used = uses.Close })
+
+-- What becomes of a reply
+
+abbrev pub with_it : value.Value → State → State
+with_it v s = record s { it = v }
+
+-- the statement ends, and `it` is none
+abbrev pub dropped : State → State
+dropped s = with_it values.Nothing s
+
+abbrev pub calling : Call → State → State
+calling c s = record s { call = Some c }
+
+-- a block or a call has ended with this value
+abbrev pub returned : given.Gives → value.Value → State → State
+returned gives.Result v s = with_it v s
+returned gives.Nothing v s = dropped s
+returned (gives.Object o) v s = with_it (values.Obj o) s
+
+-- A hook that is a function is called with self the receiver, and one that is a staticmethod with self none. No other
+-- can be called.
+abbrev pub hook_call : value.Value → value.Value → value.Value → value.Value → given.Gives → Call
+hook_call (values.Func f) r o v g = record { callee = Some f; self_arg = r; other = o; arg = v; gives = g }
+hook_call (values.Static f) r o v g = record { callee = Some f; self_arg = values.Nothing; other = o; arg = v; gives = g }
+hook_call c r o v g = record { callee = None; self_arg = r; other = o; arg = v; gives = g }
+
+-- A function that was read is called with self none. No other value can be called.
+abbrev pub value_call : value.Value → value.Value → Call
+value_call (values.Func f) w = record { callee = Some f; self_arg = values.Nothing; other = values.Nothing; arg = w; gives = gives.Result }
+value_call v w = record { callee = None; self_arg = values.Nothing; other = values.Nothing; arg = w; gives = gives.Result }
+
+-- a bound function is called with self what it is bound to
+abbrev pub method_call : ℕ → value.Value → value.Value → Call
+method_call f r w = record { callee = Some f; self_arg = r; other = values.Nothing; arg = w; gives = gives.Result }
+
+-- the variable is bound to the value
+abbrev pub binding : ℕ → value.Value → State → State
+binding a v s = record s { variables = slice_set s.variables a (Some v) }
+
+-- a section of the innermost frame is open, or isn't
+abbrev pub with_opened : Bool → List Frame → List Frame
+with_opened b [] = []
+with_opened b (f ∷ below) = record f { opened = b } ∷ below
+
+-- What becomes of a reply. A reply that the statement has no use for counts as a refusal: the statement ends, and `it` is
+-- none. Where a call follows, `it` stays as it was until the call has ended.
+abbrev pub taken : used.Use → reply.Reply → State → State
+taken uses.Read (replies.Value v) s = with_it v s
+taken uses.Read (replies.Hook k c r o v) s = calling (hook_call c r o v gives.Result) s
+taken uses.Learn (replies.Value v) s = with_it v s
+taken uses.Write (replies.Hook k c r o v) s = calling (hook_call c r o v gives.Nothing) s
+taken (uses.Call w) (replies.Value v) s = calling (value_call v w) s
+taken (uses.Call w) (replies.Method f r) s = calling (method_call f r w) s
+taken (uses.Call w) (replies.Hook k c r o v) s = calling (hook_call c r o v gives.Result) s
+taken (uses.Bind a w) (replies.Made o None) s = with_it (values.Obj o) (binding a (values.Obj o) s)
+taken (uses.Bind a w) (replies.Made o (Some init)) s = calling (hook_call init (values.Obj o) values.Nothing w (gives.Object o)) (binding a (values.Obj o) s)
+taken uses.Open replies.Done s = dropped (record s { frames = with_opened true s.frames })
+taken u r s = dropped s
+
+-- The next step
+
+-- A statement of frame f, which stands above these frames, in a state in which f has left the statement behind; by what its
+-- operands gave.
+
+abbrev pub let_next : State → ℕ → Result value.Value local.Local → Next
+let_next s a (Ok v) = silent (binding a v s)
+let_next s a (Err l) = says l (dropped s)
+
+-- `return` ends its function, with none where its operand has no value
+abbrev pub return_next : given.Gives → State → Result value.Value local.Local → Next
+return_next g s (Ok v) = silent (returned g v s)
+return_next g s (Err l) = says l (returned g values.Nothing s)
+
+-- `finish` writes no line where its `begin` opened no section
+abbrev pub finish_next : State → Bool → Next
+finish_next s true = asks line_ops.Finish uses.Close (record s { frames = with_opened false s.frames })
+finish_next s false = silent (dropped s)
+
+abbrev pub ask_next : State → Result Asked local.Local → Next
+ask_next s (Ok a) = asks a.op a.used s
+ask_next s (Err l) = says l (dropped s)
+
+abbrev pub statement_next : State → Frame → List Frame → stmt.Stmt → Next
+statement_next s f below (stmts.Let a v) = let_next s a (operand_value s f v)
+statement_next s f below (stmts.Return v) = return_next f.gives (record s { frames = below }) (operand_value s f v)
+statement_next s f below stmts.Finish = finish_next s f.opened
+statement_next s f below stmts.Checkpoint = silent s
+statement_next s f below t = ask_next s (asked_by s f t)
+
+-- the state in which frame f, above these, has begun its first statement
+abbrev pub begun_in : State → Frame → List Frame → List stmt.Stmt → State
+begun_in s f below rest = record s { frames = record f { rest = rest } ∷ below; begun = s.begun + 1 }
+
+-- The first statement that is left in a frame, or the frame's end. Where as many statements were begun as the script
+-- allows, the thread ends.
+abbrev pub frame_next : Parts → State → Frame → List Frame → List stmt.Stmt → Next
+frame_next p s f below [] = silent (returned f.gives values.Nothing (record s { frames = below }))
+frame_next p s f below (t ∷ rest) =
+    if nat_le p.budget s.begun
+    then says locals.Budget (record s { frames = [] })
+    else statement_next (begun_in s f below rest) (record f { rest = rest }) below t
+
+-- how many calls of a thread may be active
+abbrev pub most_calls : ℕ
+most_calls = 16
+
+-- the frame of a call of function f
+abbrev pub called : Parts → Call → ℕ → Frame
+called p c f = record { self_arg = c.self_arg; other = c.other; arg = c.arg; rest = slice_index_or p.bodies f []; opened = false; gives = c.gives }
+
+-- a call begins, where its callee can be called and no more calls are active than may be; the frames are one more than the
+-- calls, since the first is the block
+abbrev pub call_next : Parts → State → Call → Option ℕ → Next
+call_next p s c None = says locals.NotCallable (returned c.gives values.Nothing s)
+call_next p s c (Some f) =
+    if nat_le (length s.frames) most_calls
+    then silent (record s { frames = called p c f ∷ s.frames })
+    else says locals.Depth (returned c.gives values.Nothing s)
+
+abbrev pub frames_next : Parts → State → List Frame → Next
+frames_next p s [] = ended
+frames_next p s (f ∷ below) = frame_next p s f below f.rest
+
+abbrev pub pending_next : Parts → State → Option Call → Next
+pending_next p s None = frames_next p s s.frames
+pending_next p s (Some c) = call_next p (record s { call = None }) c c.callee
+
+-- what the thread demands next
+abbrev pub next_of : Parts → State → Next
+next_of p s = pending_next p s s.call
+
+-- the state in which a thread begins a block with these variables
+abbrev pub start : List stmt.Stmt → Variables → State
+start block variables = record {
+  frames = record { self_arg = values.Nothing; other = values.Nothing; arg = values.Nothing; rest = block; opened = false; gives = gives.Nothing } ∷ [];
+  call = None;
+  variables = variables;
+  it = values.Nothing;
+  begun = 0;
+}

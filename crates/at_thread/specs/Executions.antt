@@ -1,0 +1,86 @@
+-- Which lists of lines are an execution of a block.
+use Rattle.std.specs.Prelude.{◌≡◌, ℕ, zero, suc, Bool, true, false, List, [], ◌∷◌, Option, Some, None}
+use Rattle.at_value.specs.declared.operation.Op as op
+use Rattle.at_value.specs.declared.operation.Op.TheVariants as ops
+use Rattle.at_value.specs.declared.reply.Reply as reply
+use Rattle.at_value.specs.declared.reply.Reply.TheVariants as replies
+use Rattle.at_line.specs.declared.line.Local as local
+use Rattle.at_line.specs.declared.line.Local.TheVariants as locals
+use Rattle.at_line.specs.declared.line.LineOp as line_op
+use Rattle.at_line.specs.declared.line.LineOp.TheVariants as line_ops
+use Rattle.at_line.specs.declared.line.LineReply as line_reply
+use Rattle.at_line.specs.declared.line.LineReply.TheVariants as line_replies
+use Rattle.at_line.specs.declared.line.What as what
+use Rattle.at_line.specs.declared.line.What.TheVariants as whats
+use Rattle.at_thread.specs.declared.demand.Use as used
+use Rattle.at_script.specs.Parts.{Parts}
+use Rattle.at_thread.specs.Execution.{State, Next, ended, silent, says, asks, dropped, taken, next_of}
+
+-- What a thread takes of the reply of a line. The begin of a section is done, and its end was kept or suspended; no other
+-- operation has such a reply.
+abbrev pub reply_taken : line_op.LineOp → line_reply.LineReply → Option reply.Reply
+reply_taken (line_ops.Of o) (line_replies.Of r) = Some r
+reply_taken (line_ops.Begin o p) (line_replies.Of replies.Done) = Some replies.Done
+reply_taken line_ops.Finish line_replies.Kept = Some replies.Done
+reply_taken line_ops.Finish (line_replies.Suspended k) = Some replies.Done
+reply_taken o r = None
+
+-- an operation that can be a write
+abbrev pub can_write : op.Op → Bool
+can_write (ops.NewClass c bases) = true
+can_write (ops.TypeSet c x v) = true
+can_write (ops.TypeDel c x) = true
+can_write (ops.SetBases c bases) = true
+can_write (ops.New c) = true
+can_write (ops.Set o x v) = true
+can_write (ops.Del o x) = true
+can_write (ops.SetClass o c) = true
+can_write (ops.Share o p) = true
+can_write o = false
+
+-- an operation that writes an object's own
+abbrev pub can_wear : op.Op → Bool
+can_wear (ops.Set o x v) = true
+can_wear (ops.Del o x) = true
+can_wear (ops.SetClass o c) = true
+can_wear (ops.Share o p) = true
+can_wear o = false
+
+-- Whether a line may stand in the place of an operation: that the history has no room, in that of one that can be a write;
+-- that a head can't be written any more, in that of one that writes an object.
+abbrev pub stands_for : line_op.LineOp → local.Local → Bool
+stands_for (line_ops.Of o) (locals.Full place) = can_write o
+stands_for (line_ops.Of o) (locals.Worn sequence) = can_wear o
+stands_for o l = false
+
+-- the rest goes on with what becomes of the reply, where it may be replied
+abbrev pub TakesReply : (State → Type 0) → used.Use → State → Option reply.Reply → Type 0
+TakesReply on u s None = ⊥
+TakesReply on u s (Some r) = on (taken u r s)
+
+-- the line is of this operation with a reply to it, or stands in its place, and the rest goes on
+abbrev pub Answers : (State → Type 0) → line_op.LineOp → used.Use → State → what.What → Type 0
+Answers on o u s (whats.Did place path p r) = (p ≡ o) × TakesReply on u s (reply_taken o r)
+Answers on o u s (whats.Local l) = (stands_for o l ≡ true) × on (dropped s)
+
+-- what is demanded has the first of these lines, or none, and the rest goes on
+abbrev pub Fits : (State → List what.What → Type 0) → Next → List what.What → Type 0
+Fits on ended lines = ⊥
+Fits on (silent s) lines = on s lines
+Fits on (says l s) [] = ⊥
+Fits on (says l s) (w ∷ lines) = (w ≡ whats.Local l) × on s lines
+Fits on (asks o u s) [] = ⊥
+Fits on (asks o u s) (w ∷ lines) = Answers (λ t. on t lines) o u s w
+
+-- n steps lead from s to t, with these lines
+abbrev pub Leads : Parts → ℕ → State → List what.What → State → Type 0
+Leads p zero s lines t = (lines ≡ []) × (s ≡ t)
+Leads p (suc n) s lines t = Fits (λ u rest. Leads p n u rest t) (next_of p s) lines
+
+-- some steps lead from s to t, where the thread has ended, with these lines
+abbrev pub IsExecution : Parts → State → List what.What → State → Type 0
+IsExecution p s lines t = (next_of p t ≡ ended) × (n : ℕ) × Leads p n s lines t
+
+-- one step leads to t with these lines
+abbrev pub Makes : Next → List what.What → State → Type 0
+Makes next lines t = Fits (λ u rest. (rest ≡ []) × (u ≡ t)) next lines

@@ -1,0 +1,5 @@
+pub mod Execution
+pub mod Executions
+pub mod Threads
+pub mod Runs
+pub mod Laws

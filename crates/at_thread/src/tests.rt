@@ -1,0 +1,193 @@
+//! A thread that executes the statements of a script, and the laws of executions.
+use crate::{Demand, Thread, Use, laws};
+use at_line::{LineOp, Local};
+use at_script::{Block, Script, Stmt, read};
+use at_value::{Bases, Class, Func, HookKind, Name, Obj, Op, Reply, Value};
+use std::alloc::{AllocError, Global};
+use std::process::Abort;
+use std::test::Fail;
+
+/// What a thread is told where it asks for an operation.
+#[derive(Clone, Copy)]
+enum Told {
+    Done,
+    /// An object was made, whose class has the function as `__init__`.
+    Made,
+    /// A hook that is an integer.
+    Hook,
+    /// A line stands in the operation's place.
+    Declined,
+}
+
+fn script_of(alloc: Global, text: &str) -> Result<Script, Fail> {
+    Ok(read(alloc, text.as_bytes())?)
+}
+
+fn class() -> Class {
+    Class::new(1).unwrap()
+}
+
+fn name() -> Name {
+    Name::new(5).unwrap()
+}
+
+fn object() -> Obj {
+    Obj::new(0).unwrap()
+}
+
+fn function() -> Value {
+    Value::Func(Func::new(0).unwrap())
+}
+
+/// The demand of an operation.
+fn asks(op: Op, used: Use) -> Demand {
+    Demand::Asks(LineOp::Of(op), used)
+}
+
+fn hook() -> Reply {
+    let receiver = Value::Obj(object());
+    Reply::Hook(
+        HookKind::Getter,
+        Value::Int(1),
+        receiver,
+        Value::Nothing,
+        Value::Nothing,
+    )
+}
+
+/// Answers a demand, where it is that of an operation.
+fn answer(thread: &mut Thread<'_>, demand: &Demand, told: Told) {
+    let Demand::Asks(_, used) = demand else {
+        return;
+    };
+    match told {
+        Told::Done => thread.accept(used, &Reply::Done),
+        Told::Made => thread.accept(used, &Reply::Made(object(), Some(function()))),
+        Told::Hook => thread.accept(used, &hook()),
+        Told::Declined => thread.decline(),
+    }
+}
+
+/// Compares what a thread demands next, and answers it.
+fn demands<'a, R: Abort>(
+    rt: &R,
+    thread: &mut Thread<'a>,
+    script: &'a Script,
+    wanted: &Demand,
+    told: Told,
+) {
+    let demand = thread.next(script);
+    assert!(rt; demand == *wanted, "{wanted:?}");
+    answer(thread, &demand, told);
+}
+
+/// Whether the first variable has the object.
+fn is_bound_to_the_object(variables: &[Option<Value>]) -> bool {
+    match variables.first() {
+        Some(Some(Value::Obj(o))) => *o == object(),
+        _ => false,
+    }
+}
+
+fn unbound(alloc: Global, script: &Script) -> Result<Vec<Option<Value>>, AllocError> {
+    vec![in alloc; None; script.vars()]
+}
+
+fn statements_of_main(script: &Script) -> &[Stmt] {
+    script.block(Block::Main).unwrap_or(&[])
+}
+
+/// A thread at the begin of `main`.
+fn main_of(alloc: Global, script: &Script) -> Result<Thread<'_>, AllocError> {
+    let variables = unbound(alloc, script)?;
+    Thread::new(alloc, statements_of_main(script), variables)
+}
+
+/// Executes `main` with these steps, after which the first variable has the object.
+fn execute<R: Abort>(
+    rt: &R,
+    alloc: Global,
+    script: &Script,
+    steps: &[(Demand, Told)],
+) -> Result<(), Fail> {
+    let mut thread = main_of(alloc, script)?;
+    for (wanted, told) in steps {
+        demands(rt, &mut thread, script, wanted, *told);
+    }
+    assert!(rt; is_bound_to_the_object(thread.variables()));
+    Ok(())
+}
+
+/// Executes `main` of the script of this text.
+fn execute_text<R: Abort>(
+    rt: &R,
+    alloc: Global,
+    text: &str,
+    steps: &[(Demand, Told)],
+) -> Result<(), Fail> {
+    let script = script_of(alloc, text)?;
+    execute(rt, alloc, &script, steps)
+}
+
+/// `class C`, which is the first statement of each script here.
+fn class_is_made() -> (Demand, Told) {
+    let made = Op::NewClass(class(), Bases::only(Class::object()));
+    (asks(made, Use::Ignore), Told::Done)
+}
+
+const CALLING: &str = "attrs 1\nfunc f\nend\nmain\nclass C\nput C.x f\nnew a C 7\nend\n";
+
+fn calling_steps() -> [(Demand, Told); 8] {
+    let put = Op::TypeSet(class(), name(), function());
+    let bind = Use::Bind(0, Value::Int(7));
+    [
+        class_is_made(),
+        (asks(put, Use::Ignore), Told::Done),
+        (asks(Op::New(class()), bind), Told::Made),
+        // The function begins and ends, and then `main` ends.
+        (Demand::Silent, Told::Done),
+        (Demand::Silent, Told::Done),
+        (Demand::Silent, Told::Done),
+        (Demand::Ended, Told::Done),
+        (Demand::Ended, Told::Done),
+    ]
+}
+
+#[test]
+fn an_object_is_bound_before_its_init_runs(rt: HostRuntime) -> Result<(), Fail> {
+    execute_text(&rt, rt.alloc(), CALLING, &calling_steps())
+}
+
+const SAYING: &str =
+    "attrs 1\nmain\nclass C\nnew a C\nset b.x 1\nget a.x\nset C.x 1\ndel a.x\nend\n";
+
+fn saying_steps() -> [(Demand, Told); 11] {
+    let bind = Use::Bind(0, Value::Nothing);
+    let (get, del) = (Op::Get(object(), name()), Op::Del(object(), name()));
+    [
+        class_is_made(),
+        (asks(Op::New(class()), bind), Told::Made),
+        (Demand::Silent, Told::Done),
+        (Demand::Silent, Told::Done),
+        (Demand::Says(Local::Unbound(1)), Told::Done),
+        (asks(get, Use::Read), Told::Hook),
+        (Demand::Says(Local::NotCallable), Told::Done),
+        (Demand::Says(Local::Kind), Told::Done),
+        (asks(del, Use::Write), Told::Declined),
+        (Demand::Silent, Told::Done),
+        (Demand::Ended, Told::Done),
+    ]
+}
+
+#[test]
+fn lines_that_are_no_operation(rt: HostRuntime) -> Result<(), Fail> {
+    execute_text(&rt, rt.alloc(), SAYING, &saying_steps())
+}
+
+#[test]
+fn laws_hold() {
+    laws::replies_determine_executions();
+    laws::executions_are_short();
+    laws::numbers_have_no_gap();
+    laws::own_lines_name_no_limit();
+}

@@ -1,8 +1,0 @@
-use Rattle.at_world.proofs.Histories.{histories_unique, histories_count}
-use Rattle.at_world.proofs.laws.histories_are_unique.Goals as goal
-
-pub returns-clause-unique : goal.returns-clause-unique
-returns-clause-unique c = histories_unique
-
-pub returns-clause-count : goal.returns-clause-count
-returns-clause-count c = histories_count

@@ -1,5 +1,0 @@
-use Rattle.at_world.proofs.KeptSections.{one_thread_kept}
-use Rattle.at_world.proofs.laws.one_thread_is_kept.Goals as goal
-
-pub returns : goal.returns
-returns c = one_thread_kept

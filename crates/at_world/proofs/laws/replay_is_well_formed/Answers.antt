@@ -1,5 +1,0 @@
-use Rattle.at_world.proofs.WorldSteps.{replay-formed}
-use Rattle.at_world.proofs.laws.replay_is_well_formed.Goals as goal
-
-pub returns : goal.returns
-returns c = replay-formed

@@ -1,5 +1,0 @@
-use Rattle.at_world.proofs.WorldSteps.{step-formed}
-use Rattle.at_world.proofs.laws.step_keeps_well_formed.Goals as goal
-
-pub returns : goal.returns
-returns c = step-formed

@@ -1,5 +1,0 @@
-use Rattle.attrs.proofs.Legals.{plain_events}
-use Rattle.attrs.proofs.laws.plain_runs_are_events.Goals as goal
-
-pub returns : goal.returns
-returns c = plain_events
