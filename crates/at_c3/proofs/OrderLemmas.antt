@@ -72,15 +72,15 @@ pub run_keeps_orders : (merged : List ℕ) (lists : List (List ℕ)) → Runs li
 run_keeps_orders [] lists run = subsequences-end lists run
 run_keeps_orders (c ∷ rest) lists run = subsequences-step c rest lists (run_keeps_orders rest (map (without_head c) lists) run.1)
 
--- a part of a list is a part of the list with one more in front
-subsequence-behind : (c : ℕ) (part rest : List ℕ) → IsSubsequence part rest → IsSubsequence part (c ∷ rest)
-subsequence-behind c [] rest is = tt
-subsequence-behind c (x ∷ xs) rest is = inr is
+-- a part of a list is a part of the list with one more before it
+subsequence-after : (c : ℕ) (part rest : List ℕ) → IsSubsequence part rest → IsSubsequence part (c ∷ rest)
+subsequence-after c [] rest is = tt
+subsequence-after c (x ∷ xs) rest is = inr is
 
--- the lists before the last and the last one are parts of the list with one more in front
-pub subsequences-behind : (c : ℕ) (rest : List ℕ) (lists : List (List ℕ)) (last : List ℕ) → AllByRecursion (λ list. IsSubsequence list rest) (lists ++ last ∷ [])
+-- the lists before the last and the last one are parts of the list with one more before it
+pub subsequences-after : (c : ℕ) (rest : List ℕ) (lists : List (List ℕ)) (last : List ℕ) → AllByRecursion (λ list. IsSubsequence list rest) (lists ++ last ∷ [])
     → AllByRecursion (λ list. IsSubsequence list (c ∷ rest)) lists × IsSubsequence last (c ∷ rest)
-subsequences-behind c rest [] last all = (tt, subsequence-behind c last rest all.0)
-subsequences-behind c rest (list ∷ lists) last all =
-    let others = subsequences-behind c rest lists last all.1 in
-    ((subsequence-behind c list rest all.0, others.0), others.1)
+subsequences-after c rest [] last all = (tt, subsequence-after c last rest all.0)
+subsequences-after c rest (list ∷ lists) last all =
+    let others = subsequences-after c rest lists last all.1 in
+    ((subsequence-after c list rest all.0, others.0), others.1)

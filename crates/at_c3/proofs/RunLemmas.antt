@@ -9,10 +9,10 @@ abbrev pub Runs : List (List ℕ) → List ℕ → Type 0
 Runs lists [] = list_all is_empty lists ≡ true
 Runs lists (c ∷ rest) = (next_head lists ≡ Some c) × Runs (map (without_head c) lists) rest
 
--- a list that is there behind a front
-pub prefixed-some : (front : List ℕ) (merged : Option (List ℕ)) (whole : List ℕ) → prefixed front merged ≡ Some whole → (rest : List ℕ) × (merged ≡ Some rest) × (whole ≡ front ++ rest)
-prefixed-some front None whole h = cc
-prefixed-some front (Some rest) whole h = (rest, refl, cc)
+-- a list that is there after a prefix
+pub prefixed-some : (prefix : List ℕ) (merged : Option (List ℕ)) (whole : List ℕ) → prefixed prefix merged ≡ Some whole → (rest : List ℕ) × (merged ≡ Some rest) × (whole ≡ prefix ++ rest)
+prefixed-some prefix None whole h = cc
+prefixed-some prefix (Some rest) whole h = (rest, refl, cc)
 
 pub merge_from_run : (merged : List ℕ) (lists : List (List ℕ)) → Runs lists merged → merge_of lists ≡ Some merged
 merge_from_run [] lists run = merge_of_empty lists run

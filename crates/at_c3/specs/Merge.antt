@@ -16,7 +16,7 @@ is_empty list = length list == 0
 abbrev pub heads : List (List ℕ) → List ℕ
 heads lists = filter_map (λ list. slice_get list 0) lists
 
--- whether the number stands in the tail of some list, that is, behind its head
+-- whether the number stands in the tail of some list, that is, after its head
 abbrev pub stands_in_a_tail : List (List ℕ) → ℕ → Bool
 stands_in_a_tail lists number = list_any (λ list. list_any (λ x. x == number) (drop 1 list)) lists
 
@@ -29,9 +29,9 @@ abbrev pub without_head : ℕ → List ℕ → List ℕ
 without_head number [] = []
 without_head number (x ∷ xs) = if x == number then xs else x ∷ xs
 
--- the front, and then the list that may be there
+-- the prefix, and then the list that may be there
 abbrev pub prefixed : List ℕ → Option (List ℕ) → Option (List ℕ)
-prefixed front rest = option_map (λ list. front ++ list) rest
+prefixed prefix rest = option_map (λ list. prefix ++ list) rest
 
 -- The merge, where so many steps are enough: the empty list where all lists are empty; otherwise the next head, and
 -- then the merge of the lists with that head removed from all heads. There is none where no head is next.

@@ -183,7 +183,7 @@ pub fn order_of_slices<'a>(
 {
     let mut rests: Rests = SmallVec::from_slice(alloc, orders)?;
     rests.push(bases)?;
-    let mut front = SmallVec::new(alloc);
-    front.push(c)?;
-    merge_onto(alloc, front, &mut rests)
+    let mut prefix = SmallVec::new(alloc);
+    prefix.push(c)?;
+    merge_onto(alloc, prefix, &mut rests)
 }

@@ -35,7 +35,7 @@ bound (values.ClassM f) three o c = replies.Method f (values.Class c)
 bound (values.Obj d) three o c = read_descriptor three.get d (values.Obj o) c
 bound v three o c = replies.Value v
 
--- the look-up of a special method, and of a name behind a class: what the class has, and nothing of the object's own
+-- the look-up of a special method, and of a name after a class: what the class has, and nothing of the object's own
 abbrev pub bound_special : Option value.Value → Three → ℕ → ℕ → reply.Reply
 bound_special None three o c = replies.NoAttr
 bound_special (Some v) three o c = bound v three o c

@@ -51,7 +51,7 @@ fn bind(t: Value, three: &Three, o: Obj, c: Class) -> Reply
     }
 }
 
-/// The reply to the look-up of a special method of object o of class c, or of a name behind a class in c's order: what
+/// The reply to the look-up of a special method of object o of class c, or of a name after a class in c's order: what
 /// was found is t, and `three` is what t has as a descriptor. Nothing of the object's own counts, and `__getattr__`
 /// isn't tried. It is `NoAttr` exactly where there is no t, and `NoGetter` exactly where t is a property without a getter.
 ///

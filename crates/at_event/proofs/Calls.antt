@@ -10,25 +10,25 @@ use Rattle.at_model.specs.History.{replay}
 use Rattle.at_line.specs.Lines.{history_at}
 use Rattle.at_line.specs.Legal.{world_at, world_before}
 use Rattle.at_view.specs.declared.View.{View}
-use Rattle.at_event.specs.Calls.{IsFront, IsCall}
-use Rattle.at_event.specs.Events.{State, Event, read, write, first_state, view_of, has_read, has_written, option_change, grown, IsEnabled, after_event, IsEventRun}
+use Rattle.at_event.specs.Calls.{IsPrefix, IsCall}
+use Rattle.at_event.specs.Events.{EventState, Event, read, write, first_state, view_of, has_read, has_written, option_change, grown, IsEnabled, after_event, IsEventRun}
 use Rattle.at_event.proofs.Serials.{one_longer}
 use Rattle.at_event.proofs.Views.{live_within, IsKnown}
 use Rattle.at_event.proofs.Sound.{run_knows}
 
 -- the view that changed is there, changed
-pub changed_view : (s : State) (v : ℕ) (change : View → View) (before : View) → view_of s v ≡ Some before → view_of (record s { views = set s.views v (option_change change (view_of s v)) }) v ≡ Some (change before)
+pub changed_view : (s : EventState) (v : ℕ) (change : View → View) (before : View) → view_of s v ≡ Some before → view_of (record s { views = set s.views v (option_change change (view_of s v)) }) v ≡ Some (change before)
 changed_view s v change before is =
     get_or-set_same s.views v (option_change change (view_of s v)) None (live_within s.views v (ap is_some is)) ∙ ap (option_change change) is
 
-front_length : (front whole : List op.Op) → IsFront front whole → length front ≤ length whole
-front_length front whole is = omega (arith, ap length is.1, length-append front is.0)
+prefix_length : (prefix whole : List op.Op) → IsPrefix prefix whole → length prefix ≤ length whole
+prefix_length prefix whole is = omega (arith, ap length is.1, length-append prefix is.0)
 
 last_operation : (history : List op.Op) (operation : op.Op) → option_to_list (slice_get (history ++ operation ∷ []) (length history)) ≡ operation ∷ []
 last_operation [] operation = refl
 last_operation (first ∷ history) operation = last_operation history operation
 
-pub read_is_call : (events : List Event) (said : List (ℕ × what.What)) (s : State) (v : ℕ) (operation : op.Op) (way : path.Path) (before : View)
+pub read_is_call : (events : List Event) (said : List (ℕ × what.What)) (s : EventState) (v : ℕ) (operation : op.Op) (way : path.Path) (before : View)
     → IsEventRun first_state events said s → IsEnabled s (read v operation) → view_of s v ≡ Some before
     → (now : View) × (view_of (after_event s (read v operation)) v ≡ Some now) × IsCall before operation (record { place = record { 0 = length s.history }; reply = (step (replay s.history) operation).reply; path = way }) now
 read_is_call events said s v operation way before run (live, reads) is =
@@ -39,7 +39,7 @@ read_is_call events said s v operation way before run (live, reads) is =
       record {
         number = refl;
         more = known.1;
-        late = front_length before.seen s.history known.1;
+        late = prefix_length before.seen s.history known.1;
         write = λ writes. absurd (true≢false (sym writes ∙ reads));
         read = λ _. record {
           seen = omega arith;
@@ -50,13 +50,13 @@ read_is_call events said s v operation way before run (live, reads) is =
       },
     )
 
-pub write_is_call : (events : List Event) (said : List (ℕ × what.What)) (s : State) (v : ℕ) (operation : op.Op) (way : path.Path) (before : View)
+pub write_is_call : (events : List Event) (said : List (ℕ × what.What)) (s : EventState) (v : ℕ) (operation : op.Op) (way : path.Path) (before : View)
     → IsEventRun first_state events said s → IsEnabled s (write v operation) → view_of s v ≡ Some before
     → (now : View) × (view_of (after_event s (write v operation)) v ≡ Some now) × IsCall before operation (record { place = record { 0 = length (grown s operation) }; reply = (step (replay s.history) operation).reply; path = way }) now
 write_is_call events said s v operation way before run (live, writes) is =
     let history = grown s operation in
     let known = subst (IsKnown s.history v) is (run_knows events said s run v) in
-    let short = front_length before.seen s.history known.1 in
+    let short = prefix_length before.seen s.history known.1 in
     let long = one_longer s.history operation in
     let before_it : world_before history (length history) ≡ replay s.history = ap replay (take_at s.history (operation ∷ []) (length history - 1) (omega arith)) in (
       has_written history before,

@@ -5,35 +5,35 @@ use Rattle.std.proofs.lemmas.List.{length-set}
 use Rattle.at_value.specs.declared.operation.Op as op
 use Rattle.at_line.specs.declared.line.What as what
 use Rattle.at_view.specs.declared.View.{View}
-use Rattle.at_event.specs.Calls.{IsFront}
-use Rattle.at_event.specs.Events.{State, Event, join, first_state, view_of, longer, joined, option_join, IsEnabled, after_event, IsEventRun}
+use Rattle.at_event.specs.Calls.{IsPrefix}
+use Rattle.at_event.specs.Events.{EventState, Event, join, first_state, view_of, longer, joined, option_join, IsEnabled, after_event, IsEventRun}
 use Rattle.at_event.proofs.Views.{live_within, IsKnown}
 use Rattle.at_event.proofs.Sound.{run_knows}
 
--- of two fronts of one list, the shorter begins the longer
-front_of_longer : (first second whole : List op.Op) → IsFront first whole → IsFront second whole → length first ≤ length second → IsFront first second
-front_of_longer [] second whole is_first is_second less = (second, refl)
-front_of_longer (x ∷ first) [] whole is_first is_second less = absurd (omega arith)
-front_of_longer (x ∷ first) (y ∷ second) [] is_first is_second less = absurd (cc is_first.1)
-front_of_longer (x ∷ first) (y ∷ second) (z ∷ whole) is_first is_second less =
+-- of two prefixes of one list, the shorter begins the longer
+prefix_of_longer : (first second whole : List op.Op) → IsPrefix first whole → IsPrefix second whole → length first ≤ length second → IsPrefix first second
+prefix_of_longer [] second whole is_first is_second less = (second, refl)
+prefix_of_longer (x ∷ first) [] whole is_first is_second less = absurd (omega arith)
+prefix_of_longer (x ∷ first) (y ∷ second) [] is_first is_second less = absurd (cc is_first.1)
+prefix_of_longer (x ∷ first) (y ∷ second) (z ∷ whole) is_first is_second less =
     let heads : y ≡ x = cc (is_first.1, is_second.1) in
-    let rest = front_of_longer first second whole (is_first.0, cc (is_first.1)) (is_second.0, cc (is_second.1)) (omega arith) in
+    let rest = prefix_of_longer first second whole (is_first.0, cc (is_first.1)) (is_second.0, cc (is_second.1)) (omega arith) in
     (rest.0, cc (heads, rest.1))
 
-front_itself : (xs : List op.Op) → IsFront xs xs
-front_itself xs = ([], sym (append-nil xs))
+prefix_itself : (xs : List op.Op) → IsPrefix xs xs
+prefix_itself xs = ([], sym (append-nil xs))
 
-both_in_longer : (first second whole : List op.Op) → IsFront first whole → IsFront second whole → IsFront first (longer first second) × IsFront second (longer first second)
+both_in_longer : (first second whole : List op.Op) → IsPrefix first whole → IsPrefix second whole → IsPrefix first (longer first second) × IsPrefix second (longer first second)
 both_in_longer first second whole is_first is_second = by_test (ltb (length first) (length second)) refl
   where
-    by_test : (b : Bool) → ltb (length first) (length second) ≡ b → IsFront first (cond b second first) × IsFront second (cond b second first)
-    by_test true is = let less : length first < length second = ltb-true (length first) (length second) is in (front_of_longer first second whole is_first is_second (omega arith), front_itself second)
-    by_test false is = let less : length second ≤ length first = grind (arith, is) in (front_itself first, front_of_longer second first whole is_second is_first less)
+    by_test : (b : Bool) → ltb (length first) (length second) ≡ b → IsPrefix first (cond b second first) × IsPrefix second (cond b second first)
+    by_test true is = let less : length first < length second = ltb-true (length first) (length second) is in (prefix_of_longer first second whole is_first is_second (omega arith), prefix_itself second)
+    by_test false is = let less : length second ≤ length first = grind (arith, is) in (prefix_itself first, prefix_of_longer second first whole is_second is_first less)
 
-pub join_sees_both : (events : List Event) (said : List (ℕ × what.What)) (s : State) (v other : ℕ) (before taken : View)
+pub join_sees_both : (events : List Event) (said : List (ℕ × what.What)) (s : EventState) (v other : ℕ) (before taken : View)
     → IsEventRun first_state events said s → IsEnabled s (join v other) → view_of s v ≡ Some before → view_of s other ≡ Some taken
     → (now : View) × (view_of (after_event s (join v other)) v ≡ Some now) × (view_of (after_event s (join v other)) other ≡ None)
-    × IsFront before.seen now.seen × IsFront taken.seen now.seen × (now.own ≡ before.own ++ taken.own)
+    × IsPrefix before.seen now.seen × IsPrefix taken.seen now.seen × (now.own ≡ before.own ++ taken.own)
 join_sees_both events said s v other before taken run (live, live_other, apart) is is_other =
     let with_both = option_join (view_of s v) (view_of s other) in
     let within : v < length s.views = live_within s.views v live in
@@ -43,11 +43,11 @@ join_sees_both events said s v other before taken run (live, live_other, apart) 
     let both_are : with_both ≡ Some (joined before taken) = ap join_of is ∙ ap (option_join (Some before)) is_other in
     let known = subst (IsKnown s.history v) is (run_knows events said s run v) in
     let known_other = subst (IsKnown s.history other) is_other (run_knows events said s run other) in
-    let fronts = both_in_longer before.seen taken.seen s.history known.1 known_other.1 in (
+    let prefixes = both_in_longer before.seen taken.seen s.history known.1 known_other.1 in (
       joined before taken,
       get_or-set_other (set s.views v with_both) other v None None apart ∙ (get_or-set_same s.views v with_both None within ∙ both_are),
       get_or-set_same (set s.views v with_both) other None None (omega arith),
-      fronts.0,
-      fronts.1,
+      prefixes.0,
+      prefixes.1,
       refl,
     )

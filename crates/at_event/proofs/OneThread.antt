@@ -15,21 +15,21 @@ use Rattle.at_line.specs.Legal.{IsPathAllowed}
 use Rattle.at_line.specs.Serial.{GoesOn, IsSerial}
 use Rattle.at_model.specs.Step.{step, is_write}
 use Rattle.at_model.specs.History.{replay}
-use Rattle.at_event.specs.Events.{State, Event, read, write, first_state, IsLive, grown, did, said_by, IsEnabled, after_event, IsEventRun}
+use Rattle.at_event.specs.Events.{EventState, Event, read, write, first_state, IsLive, grown, did, said_by, IsEnabled, after_event, IsEventRun}
 use Rattle.at_event.specs.OneView.{IsDoneBy, operations_in, SerialLinesAreEvents}
 use Rattle.at_event.proofs.Serials.{one_longer}
 use Rattle.at_event.proofs.OneViews.{alone_live}
 
 -- events of the first view that lead from s to a state with this history, and say this
-record Led (s : State) (said : List (ℕ × what.What)) (history : List op.Op) : Type 0 where
+record Led (s : EventState) (said : List (ℕ × what.What)) (history : List op.Op) : Type 0 where
   pub events : List Event
-  pub last : State
+  pub last : EventState
   pub run : IsEventRun s events said last
   pub alone : All (IsDoneBy main_thread) events
   pub leads : last.history ≡ history
 
 -- one event before the others
-led_by : (s : State) (event : Event) (w : what.What) (rest : List (ℕ × what.What)) (history : List op.Op) → IsEnabled s event → IsDoneBy main_thread event → (main_thread, w) ∷ [] ≡ said_by s event → Led (after_event s event) rest history
+led_by : (s : EventState) (event : Event) (w : what.What) (rest : List (ℕ × what.What)) (history : List op.Op) → IsEnabled s event → IsDoneBy main_thread event → (main_thread, w) ∷ [] ≡ said_by s event → Led (after_event s event) rest history
     → Led s ((main_thread, w) ∷ rest) history
 led_by s event w rest history enabled alone said on = record {
   events = event ∷ on.events;
@@ -46,13 +46,13 @@ told history place n way operation reply locked replied at =
     ap (λ (r : line_reply.LineReply). whats.Did place way (line_ops.Of operation) r) replied
     ∙ ap (λ (m : ℕ). whats.Did (record { 0 = m }) way (line_ops.Of operation) (line_replies.Of (step (replay history) operation).reply)) at
 
-did_locked : (s : State) (n : ℕ) (way : path.Path) (operation : op.Op) (reply : line_reply.LineReply) (place : Place) → IsPathAllowed (whats.Did place way (line_ops.Of operation) reply)
+did_locked : (s : EventState) (n : ℕ) (way : path.Path) (operation : op.Op) (reply : line_reply.LineReply) (place : Place) → IsPathAllowed (whats.Did place way (line_ops.Of operation) reply)
     → whats.Did (record { 0 = n }) way (line_ops.Of operation) (line_replies.Of (step (replay s.history) operation).reply) ≡ did s n operation
 did_locked s n way operation reply place locked = ap (λ (p : path.Path). whats.Did (record { 0 = n }) p (line_ops.Of operation) (line_replies.Of (step (replay s.history) operation).reply)) locked
 
-module _ (s : State) (place : Place) (way : path.Path) (operation : op.Op) (reply : line_reply.LineReply) (live : IsLive s main_thread) (locked : IsPathAllowed (whats.Did place way (line_ops.Of operation) reply))
+module _ (s : EventState) (place : Place) (way : path.Path) (operation : op.Op) (reply : line_reply.LineReply) (live : IsLive s main_thread) (locked : IsPathAllowed (whats.Did place way (line_ops.Of operation) reply))
     (replied : reply ≡ line_replies.Of (step (replay s.history) operation).reply) (rest : List (ℕ × what.What)) (last : List op.Op) (Rest : List op.Op → Type 0)
-    (more : (t : State) → IsLive t main_thread → Rest t.history → Led t rest last) where
+    (more : (t : EventState) → IsLive t main_thread → Rest t.history → Led t rest last) where
   abbrev line : what.What
   line = whats.Did place way (line_ops.Of operation) reply
 
@@ -66,7 +66,7 @@ module _ (s : State) (place : Place) (way : path.Path) (operation : op.Op) (repl
       let same : line ≡ did s (length s.history) operation = told s.history place (length s.history) way operation reply locked replied on.0 ∙ did_locked s (length s.history) way operation reply place locked in
       led_by s event line rest last (live, reads) refl (ap (λ w. (main_thread, w) ∷ []) same) (more (after_event s event) (alone_live s event refl live) on.1)
 
-serial_led : (says : List what.What) (s : State) (last : List op.Op) → IsLive s main_thread → IsSerial s.history says last → All IsPathAllowed says → Led s (operations_in says) last
+serial_led : (says : List what.What) (s : EventState) (last : List op.Op) → IsLive s main_thread → IsSerial s.history says last → All IsPathAllowed says → Led s (operations_in says) last
 serial_led [] s last live serial locked = record { events = []; last = s; run = (refl, refl); alone = All-nil (IsDoneBy main_thread); leads = serial }
 serial_led (whats.Did place way (line_ops.Of operation) reply ∷ says) s last live serial locked =
     by_test s place way operation reply live (All-head IsPathAllowed _ says locked) serial.0 (operations_in says) last (λ history. IsSerial history says last)

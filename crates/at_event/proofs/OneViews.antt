@@ -19,7 +19,7 @@ use Rattle.at_line.specs.Legal.{IsPathAllowed, IsKeptAlone, IsLegal}
 use Rattle.at_line.specs.Serial.{NamesNoLimit, Adds, IsSerial}
 use Rattle.at_line.proofs.Serials.{adds_weaker, serial_is_legal}
 use Rattle.at_view.specs.declared.View.{View}
-use Rattle.at_event.specs.Events.{State, Event, split, join, read, write, first_state, view_of, IsLive, grown, has_read, has_written, option_change, did, said_by, IsEnabled, after_event, IsEventRun, view_and_what}
+use Rattle.at_event.specs.Events.{EventState, Event, split, join, read, write, first_state, view_of, IsLive, grown, has_read, has_written, option_change, did, said_by, IsEnabled, after_event, IsEventRun, view_and_what}
 use Rattle.at_event.specs.OneView.{has_place, placed, IsDoneBy, IsOneViewRun}
 use Rattle.at_event.proofs.Serials.{one_longer, lines_are_serial, run_more}
 use Rattle.at_event.proofs.Sound.{IsOperation, operation_kept, run_says, lines_say}
@@ -84,18 +84,18 @@ changed_live : (change : View → View) (view : Option View) → IsSome view →
 changed_live change None live = live
 changed_live change (Some view) live = refl
 
-still_live : (s : State) (v : ℕ) (change : View → View) → v ≡ main_thread → IsLive s main_thread → IsSome (get_or (set s.views v (option_change change (view_of s v))) main_thread None)
+still_live : (s : EventState) (v : ℕ) (change : View → View) → v ≡ main_thread → IsLive s main_thread → IsSome (get_or (set s.views v (option_change change (view_of s v))) main_thread None)
 still_live s v change is live =
     subst (λ (n : ℕ). IsSome (get_or (set s.views n (option_change change (view_of s n))) main_thread None)) (sym is)
     (ap is_some (get_or-set_same s.views main_thread (option_change change (view_of s main_thread)) None (live_within s.views main_thread live)) ∙ changed_live change (view_of s main_thread) live)
 
-pub alone_live : (s : State) (event : Event) → IsDoneBy main_thread event → IsLive s main_thread → IsLive (after_event s event) main_thread
+pub alone_live : (s : EventState) (event : Event) → IsDoneBy main_thread event → IsLive s main_thread → IsLive (after_event s event) main_thread
 alone_live s (split v) alone live = absurd alone
 alone_live s (join v other) alone live = absurd alone
 alone_live s (read v operation) alone live = still_live s v (has_read s.history) alone live
 alone_live s (write v operation) alone live = still_live s v (has_written (grown s operation)) alone live
 
-run_alone_live : (events : List Event) (s last : State) (said : List (ℕ × what.What)) → IsEventRun s events said last → All (IsDoneBy main_thread) events → IsLive s main_thread → IsLive last main_thread
+run_alone_live : (events : List Event) (s last : EventState) (said : List (ℕ × what.What)) → IsEventRun s events said last → All (IsDoneBy main_thread) events → IsLive s main_thread → IsLive last main_thread
 run_alone_live [] s last said (none, same) alone live = subst (λ t. IsLive t main_thread) same live
 run_alone_live (event ∷ events) s last said (enabled, rest, is, on) alone live =
     run_alone_live events (after_event s event) last rest on (All-tail (IsDoneBy main_thread) event events alone) (alone_live s event (All-head (IsDoneBy main_thread) event events alone) live)

@@ -10,7 +10,7 @@ use Rattle.at_line.specs.declared.line.What as what
 use Rattle.at_line.specs.declared.line.What.TheVariants as whats
 use Rattle.at_line.specs.Legal.{IsKeptAlone}
 use Rattle.at_line.proofs.Serials.{are_serial}
-use Rattle.at_event.specs.Events.{State, Event, split, join, read, write, first_state, view_of, grown, did, said_by, after_event, IsEventRun, view_and_what, AreLinesOf}
+use Rattle.at_event.specs.Events.{EventState, Event, split, join, read, write, first_state, view_of, grown, did, said_by, after_event, IsEventRun, view_and_what, AreLinesOf}
 use Rattle.at_event.specs.Laws.{IsSound}
 use Rattle.at_event.proofs.Serials.{lines_are_serial, run_keeps, run_is_proper}
 use Rattle.at_event.proofs.Views.{IsKnown, AreKnown, events_know, AreOwned, events_own, once_within, once_beyond}
@@ -23,10 +23,10 @@ first_known (suc v) = none v
     none zero = tt
     none (suc v) = tt
 
-pub run_knows : (events : List Event) (said : List (ℕ × what.What)) (last : State) → IsEventRun first_state events said last → AreKnown last
+pub run_knows : (events : List Event) (said : List (ℕ × what.What)) (last : EventState) → IsEventRun first_state events said last → AreKnown last
 run_knows events said last run = run_keeps AreKnown events_know events first_state last said run first_known
 
-run_owns : (events : List Event) (said : List (ℕ × what.What)) (last : State) → IsEventRun first_state events said last → AreOwned last
+run_owns : (events : List Event) (said : List (ℕ × what.What)) (last : EventState) → IsEventRun first_state events said last → AreOwned last
 run_owns events said last run = run_keeps AreOwned events_own events first_state last said run (λ place. refl)
 
 -- an operation of the data model, which went under locks
@@ -43,13 +43,13 @@ operation_kept thread (whats.Did place way (line_ops.Begin first second) reply) 
 operation_kept thread (whats.Did place way line_ops.Finish reply) is = absurd is
 operation_kept thread (whats.Local local) is = absurd is
 
-event_says : (s : State) (event : Event) → All SaysOperation (said_by s event)
+event_says : (s : EventState) (event : Event) → All SaysOperation (said_by s event)
 event_says s (split v) = All-nil SaysOperation
 event_says s (join v other) = All-nil SaysOperation
 event_says s (read v operation) = All-cons SaysOperation (v, did s (length s.history) operation) [] refl (All-nil SaysOperation)
 event_says s (write v operation) = All-cons SaysOperation (v, did s (length (grown s operation)) operation) [] refl (All-nil SaysOperation)
 
-pub run_says : (events : List Event) (s last : State) (said : List (ℕ × what.What)) → IsEventRun s events said last → All SaysOperation said
+pub run_says : (events : List Event) (s last : EventState) (said : List (ℕ × what.What)) → IsEventRun s events said last → All SaysOperation said
 run_says [] s last said (none, same) = subst (All SaysOperation) (sym none) (All-nil SaysOperation)
 run_says (event ∷ events) s last said (enabled, rest, is, on) =
     subst (All SaysOperation) (sym is) (All-append SaysOperation (said_by s event) rest (event_says s event) (run_says events (after_event s event) last rest on))
@@ -60,7 +60,7 @@ lines_say said lines are says k d within =
     let mapped : All SaysOperation (map view_and_what lines) = subst (All SaysOperation) (sym are) says in
     subst SaysOperation (get_or-map view_and_what lines k d (view_and_what d) within) (mapped k (view_and_what d) (omega (arith, length-map lines view_and_what)))
 
-pub sound : (events : List Event) (said : List (ℕ × what.What)) (last : State) (lines : List Line) → IsEventRun first_state events said last → AreLinesOf said lines → IsSound last lines
+pub sound : (events : List Event) (said : List (ℕ × what.What)) (last : EventState) (lines : List Line) → IsEventRun first_state events said last → AreLinesOf said lines → IsSound last lines
 sound events said last lines run are =
     let serial = are_serial lines last.history (lines_are_serial first_state last events said lines run are) in
     let known = run_knows events said last run in

@@ -1,4 +1,4 @@
--- What events keep of the views: each has its number and has seen a front of the history, and the own places.
+-- What events keep of the views: each has its number and has seen a prefix of the history, and the own places.
 use Rattle.std.proofs.Common.{◌≡◌, ◌≢◌, ◌∙◌, ◌⊎◌, inl, inr, ℕ, zero, suc, ◌+◌, ◌<◌, ◌≤◌, ◌==◌, eq-eqb, ne_eqb, cond, Bool, true, false, ltb, List, [], ◌∷◌, ◌++◌, length, get_or, set, Option, Some, None, refl, sym, ap, subst, length-append, append_assoc, append-nil, arith, get_or-set_same, get_or-set_other}
 use Rattle.std.specs.Prelude.{count_by, IsSome}
 use Rattle.std.proofs.lemmas.Bool.{false≢true}
@@ -8,8 +8,8 @@ use mathlib.Core.Logic.{dite}
 use native.Mathlib.Decide.{ℕ_discrete}
 use Rattle.at_value.specs.declared.operation.Op as op
 use Rattle.at_view.specs.declared.View.{View}
-use Rattle.at_event.specs.Calls.{IsFront}
-use Rattle.at_event.specs.Events.{State, Event, split, join, read, write, view_of, longer, split_off, has_read, has_written, option_join, option_change, grown, IsEnabled, after_event, own_count, owner_count}
+use Rattle.at_event.specs.Calls.{IsPrefix}
+use Rattle.at_event.specs.Events.{EventState, Event, split, join, read, write, view_of, longer, split_off, has_read, has_written, option_join, option_change, grown, IsEnabled, after_event, own_count, owner_count}
 
 -- Views by number
 
@@ -40,29 +40,29 @@ module _ (P : ℕ → Option View → Type 0) where
 
 -- What each view has seen
 
--- where the view is live, it has this number and has seen a front of the history
+-- where the view is live, it has this number and has seen a prefix of the history
 abbrev pub IsKnown : List op.Op → ℕ → Option View → Type 0
 IsKnown history v None = Unit {0}
-IsKnown history v (Some view) = (view.number ≡ v) × IsFront view.seen history
+IsKnown history v (Some view) = (view.number ≡ v) × IsPrefix view.seen history
 
-abbrev pub AreKnown : State → Type 0
+abbrev pub AreKnown : EventState → Type 0
 AreKnown s = (v : ℕ) → IsKnown s.history v (view_of s v)
 
 split_known : (history : List op.Op) (v n : ℕ) (view : Option View) → IsKnown history v view → IsKnown history n (option_change (split_off n) view)
 split_known history v n None known = tt
 split_known history v n (Some view) known = (refl, known.1)
 
-longer_front : (history first second : List op.Op) → IsFront first history → IsFront second history → IsFront (longer first second) history
-longer_front history first second is_first is_second = by_test (ltb (length first) (length second))
+longer_prefix : (history first second : List op.Op) → IsPrefix first history → IsPrefix second history → IsPrefix (longer first second) history
+longer_prefix history first second is_first is_second = by_test (ltb (length first) (length second))
   where
-    by_test : (b : Bool) → IsFront (cond b second first) history
+    by_test : (b : Bool) → IsPrefix (cond b second first) history
     by_test true = is_second
     by_test false = is_first
 
 join_known : (history : List op.Op) (v u : ℕ) (view other : Option View) → IsKnown history v view → IsKnown history u other → IsKnown history v (option_join view other)
 join_known history v u None other known known_other = tt
 join_known history v u (Some view) None known known_other = known
-join_known history v u (Some view) (Some other) known known_other = (known.0, longer_front history view.seen other.seen known.1 known_other.1)
+join_known history v u (Some view) (Some other) known known_other = (known.0, longer_prefix history view.seen other.seen known.1 known_other.1)
 
 read_known : (history : List op.Op) (v : ℕ) (view : Option View) → IsKnown history v view → IsKnown history v (option_change (has_read history) view)
 read_known history v None known = tt
@@ -70,13 +70,13 @@ read_known history v (Some view) known = (known.0, ([], sym (append-nil history)
 
 known_more : (history : List op.Op) (operation : op.Op) (v : ℕ) (view : Option View) → IsKnown history v view → IsKnown (history ++ operation ∷ []) v view
 known_more history operation v None known = tt
-known_more history operation v (Some view) (number, front) = (number, (front.0 ++ operation ∷ [], ap (λ xs. xs ++ operation ∷ []) front.1 ∙ append_assoc view.seen front.0 (operation ∷ [])))
+known_more history operation v (Some view) (number, prefix) = (number, (prefix.0 ++ operation ∷ [], ap (λ xs. xs ++ operation ∷ []) prefix.1 ∙ append_assoc view.seen prefix.0 (operation ∷ [])))
 
 write_known : (history : List op.Op) (v : ℕ) (view : Option View) → IsKnown history v view → IsKnown history v (option_change (has_written history) view)
 write_known history v None known = tt
 write_known history v (Some view) known = (known.0, ([], sym (append-nil history)))
 
-pub events_know : (s : State) (event : Event) → IsEnabled s event → AreKnown s → AreKnown (after_event s event)
+pub events_know : (s : EventState) (event : Event) → IsEnabled s event → AreKnown s → AreKnown (after_event s event)
 events_know s (split v) live known =
     each_push (IsKnown s.history) s.views (option_change (split_off (length s.views)) (view_of s v)) known (λ u. tt) (split_known s.history v (length s.views) (view_of s v) (known v))
 events_know s (join v other) (live, live_other, apart) known =
@@ -133,10 +133,10 @@ abbrev pub once : ℕ → ℕ → ℕ
 once place zero = 0
 once place (suc n) = cond (suc n == place) 1 0 + once place n
 
-abbrev pub AreOwned : State → Type 0
+abbrev pub AreOwned : EventState → Type 0
 AreOwned s = (place : ℕ) → owner_count place s.views ≡ once place (length s.history)
 
-pub events_own : (s : State) (event : Event) → IsEnabled s event → AreOwned s → AreOwned (after_event s event)
+pub events_own : (s : EventState) (event : Event) → IsEnabled s event → AreOwned s → AreOwned (after_event s event)
 events_own s (split v) live owned place =
     let now = owner_push place s.views (option_change (split_off (length s.views)) (view_of s v)) in
     let nothing = split_owns place (length s.views) (view_of s v) in

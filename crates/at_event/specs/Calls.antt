@@ -8,9 +8,9 @@ use Rattle.at_line.specs.Lines.{history_at}
 use Rattle.at_line.specs.Legal.{world_at, world_before}
 use Rattle.at_view.specs.declared.View.{View}
 
--- the list begins with this front
-abbrev pub IsFront : List op.Op → List op.Op → Type 0
-IsFront front whole = (rest : List op.Op) × (whole ≡ front ++ rest)
+-- the list begins with this prefix
+abbrev pub IsPrefix : List op.Op → List op.Op → Type 0
+IsPrefix prefix whole = (rest : List op.Op) × (whole ≡ prefix ++ rest)
 
 -- A write at a place, by a view that was the first and is now the second: the place lies past what the view had seen, the
 -- history has the operation there, the reply is that of the data model after the writes below the place, and the place
@@ -33,7 +33,7 @@ pub record IsReadAt (before : View) (operation : op.Op) (place : ℕ) (said : re
 -- place is no earlier than what it had seen, and the history is the part that it has seen now.
 pub record IsCall (before : View) (operation : op.Op) (answer : Answer) (now : View) : Type 0 where
   pub number : now.number ≡ before.number
-  pub more : IsFront before.seen now.seen
+  pub more : IsPrefix before.seen now.seen
   pub late : length before.seen ≤ answer.place.0
   pub write : IsTrue (is_done answer.reply) → IsWriteAt before operation answer.place.0 answer.reply now
   pub read : is_done answer.reply ≡ false → IsReadAt before operation answer.place.0 answer.reply now

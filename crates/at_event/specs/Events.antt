@@ -1,5 +1,5 @@
 -- Whole events: each operation is done at one moment, at the end of the history so far, by one of the live views. A view
--- stands for a pass, and has seen a front of the history.
+-- stands for a pass, and has seen a prefix of the history.
 use Rattle.std.specs.Prelude.{ℕ, ◌≡◌, ◌≢◌, ◌+◌, ◌==◌, nat_lt, false, IsTrue, List, [], ◌∷◌, ◌++◌, length, map, set, count_by, Option, Some, None, IsSome, slice_index_or, if◌then◌else◌}
 use Rattle.at_value.specs.declared.operation.Op as op
 use Rattle.at_value.specs.declared.reply.Path.TheVariants as paths
@@ -14,7 +14,7 @@ use Rattle.at_view.specs.declared.View.{View}
 
 -- the history of writes, and the views by number, none where a view is spent; a new view has the next number, so that no
 -- number is used again
-pub record State : Type 0 where
+pub record EventState : Type 0 where
   pub history : List op.Op
   pub views : List (Option View)
 
@@ -28,19 +28,19 @@ pub data Event : Type 0 where
   write : ℕ → op.Op → Event
 
 -- at first there is one view, which has seen nothing and has no place of its own
-abbrev pub first_state : State
+abbrev pub first_state : EventState
 first_state = record { history = []; views = Some (record { number = 0; seen = []; own = [] }) ∷ [] }
 
 -- the view of this number, where it is live
-abbrev pub view_of : State → ℕ → Option View
+abbrev pub view_of : EventState → ℕ → Option View
 view_of s v = slice_index_or s.views v None
 
-abbrev pub IsLive : State → ℕ → Type 0
+abbrev pub IsLive : EventState → ℕ → Type 0
 IsLive s v = IsSome (view_of s v)
 
 -- Views that change
 
--- the longer of two fronts of the history
+-- the longer of two prefixes of the history
 abbrev pub longer : List op.Op → List op.Op → List op.Op
 longer first second = if nat_lt (length first) (length second) then second else first
 
@@ -63,7 +63,7 @@ has_written history view = record view { seen = history; own = view.own ++ lengt
 
 -- An event is enabled where its views are live; a join takes in another view, a read's operation is no write after the
 -- history, and a write's is one.
-abbrev pub IsEnabled : State → Event → Type 0
+abbrev pub IsEnabled : EventState → Event → Type 0
 IsEnabled s (split v) = IsLive s v
 IsEnabled s (join v other) = IsLive s v × IsLive s other × (v ≢ other)
 IsEnabled s (read v operation) = IsLive s v × (is_write (replay s.history) operation ≡ false)
@@ -78,33 +78,33 @@ option_change change None = None
 option_change change (Some view) = Some (change view)
 
 -- the views in which one has changed
-abbrev pub with_view : State → ℕ → (View → View) → List (Option View)
+abbrev pub with_view : EventState → ℕ → (View → View) → List (Option View)
 with_view s v change = set s.views v (option_change change (view_of s v))
 
 -- the history with one operation more
-abbrev pub grown : State → op.Op → List op.Op
+abbrev pub grown : EventState → op.Op → List op.Op
 grown s operation = s.history ++ operation ∷ []
 
 -- the state after an event
-abbrev pub after_event : State → Event → State
+abbrev pub after_event : EventState → Event → EventState
 after_event s (split v) = record s { views = s.views ++ option_change (split_off (length s.views)) (view_of s v) ∷ [] }
 after_event s (join v other) = record s { views = set (set s.views v (option_join (view_of s v) (view_of s other))) other None }
 after_event s (read v operation) = record s { views = with_view s v (has_read s.history) }
 after_event s (write v operation) = record { history = grown s operation; views = with_view s v (has_written (grown s operation)) }
 
 -- what a view did at a place, with the reply of the data model after the history
-abbrev pub did : State → ℕ → op.Op → what.What
+abbrev pub did : EventState → ℕ → op.Op → what.What
 did s place operation = whats.Did (record { 0 = place }) paths.Locked (line_ops.Of operation) (line_replies.Of (step (replay s.history) operation).reply)
 
 -- What an event writes down, with its view: a read at the end of the history, a write at its new end.
-abbrev pub said_by : State → Event → List (ℕ × what.What)
+abbrev pub said_by : EventState → Event → List (ℕ × what.What)
 said_by s (split v) = []
 said_by s (join v other) = []
 said_by s (read v operation) = (v, did s (length s.history) operation) ∷ []
 said_by s (write v operation) = (v, did s (length (grown s operation)) operation) ∷ []
 
 -- These events, each of them enabled, lead from the first state to the last, and write this down.
-abbrev pub IsEventRun : State → List Event → List (ℕ × what.What) → State → Type 0
+abbrev pub IsEventRun : EventState → List Event → List (ℕ × what.What) → EventState → Type 0
 IsEventRun s [] said last = (said ≡ []) × (s ≡ last)
 IsEventRun s (event ∷ events) said last = IsEnabled s event × (rest : List (ℕ × what.What)) × (said ≡ said_by s event ++ rest) × IsEventRun (after_event s event) events rest last
 

@@ -9,7 +9,7 @@ use Rattle.at_line.specs.declared.line.What.TheVariants as whats
 use Rattle.at_line.specs.Lines.{main_thread, IsHistory}
 use Rattle.at_line.specs.Legal.{IsLegal, IsPathAllowed}
 use Rattle.at_line.specs.Serial.{IsSerial, NamesNoLimit}
-use Rattle.at_event.specs.Events.{State, Event, split, join, read, write, first_state, IsEventRun, AreLinesOf}
+use Rattle.at_event.specs.Events.{EventState, Event, split, join, read, write, first_state, IsEventRun, AreLinesOf}
 
 abbrev pub has_place : what.What → Bool
 has_place (whats.Did place path operation reply) = true
@@ -32,7 +32,7 @@ IsDoneBy v (write u operation) = u ≡ v
 pub record IsOneViewRun (lines : List Line) (history : List op.Op) : Type 0 where
   pub events : List Event
   pub said : List (ℕ × what.What)
-  pub last : State
+  pub last : EventState
   pub run : IsEventRun first_state events said last
   pub alone : All (IsDoneBy main_thread) events
   pub leads : last.history ≡ history
@@ -59,4 +59,4 @@ operations_in (w ∷ says) = operation_in w ++ operations_in says
 abbrev pub SerialLinesAreEvents : Type 0
 SerialLinesAreEvents =
     (says : List what.What) (history : List op.Op) → IsSerial [] says history → All IsPathAllowed says
-    → (events : List Event) × (last : State) × IsEventRun first_state events (operations_in says) last × All (IsDoneBy main_thread) events × (last.history ≡ history)
+    → (events : List Event) × (last : EventState) × IsEventRun first_state events (operations_in says) last × All (IsDoneBy main_thread) events × (last.history ≡ history)

@@ -10,7 +10,7 @@ use Rattle.at_line.specs.declared.line.LineOp.TheVariants as line_ops
 use Rattle.at_line.specs.declared.line.LineReply.TheVariants as line_replies
 use Rattle.at_line.specs.declared.line.What as what
 use Rattle.at_line.specs.declared.line.What.TheVariants as whats
-use Rattle.at_event.specs.Events.{State, Event, split, join, read, write, first_state, IsEventRun}
+use Rattle.at_event.specs.Events.{EventState, Event, split, join, read, write, first_state, IsEventRun}
 
 -- `class 1(object)`, `1.5 = 7`, and an object of class 1
 abbrev pub makes_class : op.Op
@@ -41,7 +41,7 @@ worked_lines =
 abbrev pub worked_history : List op.Op
 worked_history = makes_class ∷ puts_seven ∷ makes_object ∷ []
 
-abbrev pub worked_last : State
+abbrev pub worked_last : EventState
 worked_last = record { history = worked_history; views = Some (record { number = 0; seen = worked_history; own = 1 ∷ 3 ∷ 2 ∷ [] }) ∷ None ∷ [] }
 
 abbrev pub IsWorked : Type 0

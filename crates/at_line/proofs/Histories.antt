@@ -21,11 +21,11 @@ same_places [] [] same = refl
 same_places [] (o ∷ second) same = absurd (cc (same 1))
 same_places (o ∷ first) [] same = absurd (cc (same 1))
 same_places (o ∷ first) (p ∷ second) same =
-    let rest : first ≡ second = same_places first second (λ place. behind place) in cc (same 1, rest)
+    let rest : first ≡ second = same_places first second (λ place. after place) in cc (same 1, rest)
   where
-    behind : (place : ℕ) → history_at place first ≡ history_at place second
-    behind zero = refl
-    behind (suc before) = same (suc (suc before))
+    after : (place : ℕ) → history_at place first ≡ history_at place second
+    after zero = refl
+    after (suc before) = same (suc (suc before))
 
 pub histories_unique : (lines : List Line) (first second : List op.Op) → IsHistory lines first → IsHistory lines second → first ≡ second
 histories_unique lines first second is_first is_second = same_places first second (λ place. sym (is_first place) ∙ is_second place)

@@ -38,7 +38,7 @@ first_of_more : (b : Bool) (o : op.Op) (more : List op.Op) → (if b then o ∷ 
 first_of_more true o more = refl
 first_of_more false o more = refl
 
--- the line may stand behind this place
+-- the line may stand after this place
 abbrev pub IsFrom : ℕ → what.What → Type 0
 IsFrom n (whats.Did place path operation reply) = (n ≤ place.0) × (IsTrue (is_write_line (whats.Did place path operation reply)) → n < place.0)
 IsFrom n (whats.Local local) = Unit {0}
@@ -63,7 +63,7 @@ PlacedAfter first second = IsPlacedAfter first.what second.what
 module _ (last : List op.Op) where
   -- the lines that go on from a history to the last
   pub record Continues (lines : List Line) (history : List op.Op) : Type 0 where
-    pub front : (rest : List op.Op) × (last ≡ history ++ rest)
+    pub prefix : (rest : List op.Op) × (last ≡ history ++ rest)
     pub places : (place : ℕ) → history_at place history ++ operations_at place (writes lines) ≡ history_at place last
     pub count : length history + write_count lines ≡ length last
     pub writes_true : All (WriteTrue last) lines
@@ -79,7 +79,7 @@ module _ (last history : List op.Op) (thread number : ℕ) (lines : List Line) w
   continues_at : (w : what.What) → write_in w ≡ [] → IsWriteTrue last w → IsReadTrue last (length last) w → IsFrom (length history) w
       → ((v : what.What) → IsFrom (length history) v → IsPlacedAfter w v) → Continues last lines history → Continues last (line_of w ∷ lines) history
   continues_at w none true_write true_read from after on = record {
-    front = on.front;
+    prefix = on.prefix;
     places = λ place. ap (λ ws. history_at place history ++ operations_at place (ws ++ writes lines)) none ∙ on.places place;
     count = ap (λ ws. length history + length (ws ++ writes lines)) none ∙ on.count;
     writes_true = All-cons (WriteTrue last) (line_of w) lines true_write on.writes_true;
@@ -89,13 +89,13 @@ module _ (last history : List op.Op) (thread number : ℕ) (lines : List Line) w
   }
 
   -- a write makes the history longer
-  continues_behind : (w : what.What) (place : ℕ) (o : op.Op) → write_in w ≡ (place, o) ∷ [] → place ≡ suc (length history) → IsWriteTrue last w → IsReadTrue last (length last) w → IsFrom (length history) w
+  continues_after : (w : what.What) (place : ℕ) (o : op.Op) → write_in w ≡ (place, o) ∷ [] → place ≡ suc (length history) → IsWriteTrue last w → IsReadTrue last (length last) w → IsFrom (length history) w
       → ((v : what.What) → IsFrom (suc (length history)) v → IsPlacedAfter w v) → Continues last lines (history ++ o ∷ []) → Continues last (line_of w ∷ lines) history
-  continues_behind w place o one at true_write true_read from after on =
+  continues_after w place o one at true_write true_read from after on =
       let longer : length (history ++ o ∷ []) ≡ length history + 1 = length-append history (o ∷ []) in
       let counted = on.count in
       record {
-        front = (o ∷ [] ++ on.front.0, on.front.1 ∙ append_assoc history (o ∷ []) on.front.0);
+        prefix = (o ∷ [] ++ on.prefix.0, on.prefix.1 ∙ append_assoc history (o ∷ []) on.prefix.0);
         places = λ p. ap (λ ws. history_at p history ++ operations_at p (ws ++ writes lines)) one
             ∙ (ap (λ (x : ℕ). history_at p history ++ (if x == p then o ∷ operations_at p (writes lines) else operations_at p (writes lines))) at
             ∙ (ap (λ xs. history_at p history ++ xs) (first_of_more (suc (length history) == p) o (operations_at p (writes lines)))
@@ -123,8 +123,8 @@ module _ (last history : List op.Op) (thread number : ℕ) (lines : List Line) (
       → Continues last (line_of last history thread number lines this ∷ lines) history
   continues_by_test true wrote (at, on) =
       let same : is_write_reply reply ≡ true = line_written ∙ wrote in
-      let before : world_before last place.0 ≡ replay history = cut_at last history (o ∷ [] ++ on.front.0) (place.0 - 1) (on.front.1 ∙ append_assoc history (o ∷ []) on.front.0) (omega (arith, at)) in
-      continues_behind last history thread number lines this place.0 o (ap (λ (b : Bool). if b then (place.0, o) ∷ [] else []) same) at
+      let before : world_before last place.0 ≡ replay history = cut_at last history (o ∷ [] ++ on.prefix.0) (place.0 - 1) (on.prefix.1 ∙ append_assoc history (o ∷ []) on.prefix.0) (omega (arith, at)) in
+      continues_after last history thread number lines this place.0 o (ap (λ (b : Bool). if b then (place.0, o) ∷ [] else []) same) at
       (λ _. (told ∙ ap (λ w. line_replies.Of (step w o).reply) (sym before), ap (λ w. is_write w o) before ∙ wrote))
       (λ reads. absurd (true≢false (sym same ∙ reads)))
       (omega (arith, at), λ _. omega (arith, at))
@@ -136,7 +136,7 @@ module _ (last history : List op.Op) (thread number : ℕ) (lines : List Line) (
       on_from (whats.Local local) there = tt
   continues_by_test false reads (at, on) =
       let same : is_write_reply reply ≡ false = line_written ∙ reads in
-      let here : world_at last place.0 ≡ replay history = cut_at last history on.front.0 place.0 on.front.1 at in
+      let here : world_at last place.0 ≡ replay history = cut_at last history on.prefix.0 place.0 on.prefix.1 at in
       let long : length history ≤ length last = omega (arith, on.count) in
       continues_at last history thread number lines this (ap (λ (b : Bool). if b then (place.0, o) ∷ [] else []) same)
       (λ wrote. absurd (true≢false (sym wrote ∙ same)))
@@ -189,7 +189,7 @@ adds_weaker one other history (whats.Local local) f on = f history on
 
 pub serial_continues : (lines : List Line) (history last : List op.Op) → IsSerial history (map what_of lines) last → Continues last lines history
 serial_continues [] history last s = record {
-  front = ([], sym s ∙ sym (append-nil history));
+  prefix = ([], sym s ∙ sym (append-nil history));
   places = λ place. append-nil (history_at place history) ∙ ap (history_at place) s;
   count = omega (arith, ap length s);
   writes_true = All-nil (WriteTrue last);

@@ -64,15 +64,15 @@ pub record KeptSection (thread_lines : List what.What) : Type 0 where
   pub begin_reply : line_reply.LineReply
   pub before : List what.What
   pub between : List what.What
-  pub behind : List what.What
-  pub stands : thread_lines ≡ before ++ whats.Did begun begin_path (line_ops.Begin first second) begin_reply ∷ (between ++ whats.Did ended end_path line_ops.Finish line_replies.Kept ∷ behind)
+  pub after : List what.What
+  pub stands : thread_lines ≡ before ++ whats.Did begun begin_path (line_ops.Begin first second) begin_reply ∷ (between ++ whats.Did ended end_path line_ops.Finish line_replies.Kept ∷ after)
   pub closed : EndsAll 0 between
 
 -- the objects of the section
 abbrev pub objects_of : ℕ → Option ℕ → List ℕ
 objects_of first second = first ∷ option_to_list second
 
--- a write at a place behind the begin and up to the end touches none of the objects
+-- a write at a place after the begin and up to the end touches none of the objects
 abbrev pub LeavesAlone : List op.Op → ℕ → ℕ → List ℕ → ℕ × op.Op → Type 0
 LeavesAlone history begun ended objects write =
     begun < write.0 → write.0 ≤ ended → (o : ℕ) → Contains objects o → ¬ Contains (rows_of (world_before history write.0) write.1) o

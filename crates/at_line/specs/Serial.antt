@@ -9,7 +9,7 @@ use Rattle.at_line.specs.declared.line.What.TheVariants as whats
 use Rattle.at_model.specs.Step.{step, is_write}
 use Rattle.at_model.specs.History.{replay}
 
--- A write has the place behind the history, which grows by it; another operation has the history's last place.
+-- A write has the place after the history, which grows by it; another operation has the history's last place.
 abbrev pub GoesOn : (List op.Op → Type 0) → Bool → List op.Op → ℕ → op.Op → Type 0
 GoesOn rest true history place operation = (place ≡ suc (length history)) × rest (history ++ operation ∷ [])
 GoesOn rest false history place operation = (place ≡ length history) × rest history

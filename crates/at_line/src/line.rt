@@ -37,7 +37,7 @@ pub enum Local {
     NotCallable,
     /// An object's head can't be written any more: its sequence.
     Worn(u64),
-    /// The history has no room behind this place.
+    /// The history has no room after this place.
     Full(u64),
 }
 

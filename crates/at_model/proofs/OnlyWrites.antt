@@ -15,7 +15,7 @@ use Rattle.at_desc.specs.declared.descriptor.Step as step
 use Rattle.at_desc.specs.declared.descriptor.Step.TheVariants as steps
 use Rattle.at_model.specs.declared.rows.Object.{Object}
 use Rattle.at_model.specs.World.{World, own_of, row_of, order_of, find_in, find_along}
-use Rattle.at_model.specs.Attributes.{Outcome, dict_of, set_by, set_on, del_own, del_by, del_on, three_of, get_on, special_on, behind_in, super_along, super_on, class_on, order_reply}
+use Rattle.at_model.specs.Attributes.{Outcome, dict_of, set_by, set_on, del_own, del_by, del_on, three_of, get_on, special_on, classes_after_in, super_along, super_on, class_on, order_reply}
 use Rattle.at_desc.specs.Binding.{read_property, read_descriptor, bound, bound_special, comes_first, own_or, or_getattr, bound_get, bound_to_class, bound_class}
 use Rattle.at_model.specs.Laws.{is_read}
 use Rattle.at_model.specs.Step as stepping
@@ -148,7 +148,7 @@ super_along-read w o n c (Some rest) = let t = find_along w.classes rest n in sp
 
 super_on-read : (w : World) (k o n : ℕ) (found : Option Object) → IsRead (super_on w k o n found)
 super_on-read w k o n None = refl
-super_on-read w k o n (Some found) = super_along-read w o n found.class (behind_in k (order_of w found.class))
+super_on-read w k o n (Some found) = super_along-read w o n found.class (classes_after_in k (order_of w found.class))
 
 to_class-read : (v : value.Value) (three : Three) (c : ℕ) → IsRead (bound_to_class v three c)
 to_class-read (values.Func f) three c = refl

@@ -68,7 +68,7 @@ above_from_member (suc n) w c a order is at =
           ]
     ]
 
--- a class above another stands in its order, behind the first
+-- a class above another stands in its order, after the first
 pub above_stands : (k : ℕ) (w : World) (a c : ℕ) (order : List ℕ) (made : IsMadeOf (order_within (length w.classes) w.classes) c (row_of w.classes c) order) → IsAboveBy k w a c → has a made.rest ≡ true
 above_stands zero w a c order made above = absurd above
 above_stands (suc k) w a c order made above =

@@ -13,7 +13,7 @@ use Rattle.at_c3.proofs.NumberLemmas.{has, all_differ}
 use Rattle.at_c3.proofs.RunLemmas.{run_from_merge, prefixed-some}
 use Rattle.at_c3.proofs.OrderLemmas.{has-run, run_is_distinct, run_keeps_orders}
 use Rattle.at_model.specs.declared.rows.ClassRow.{ClassRow}
-use Rattle.at_model.specs.World.{row_of, order_before, all_orders, joined, order_of_row, order_within, order_in}
+use Rattle.at_model.specs.World.{row_of, order_before, all_orders, merged_order, order_of_row, order_within, order_in}
 use Rattle.at_model.proofs.Subsequences.{subsequence-length, subsequence-more, subsequence-self, subsequence-trans}
 
 -- What an order is made of
@@ -67,7 +67,7 @@ pub parts_of : (f : ℕ → Option (List ℕ)) (c : ℕ) (row_there : Option Cla
     → IsMadeOf f c row_there order
 parts_of f c None order is = cc
 parts_of f c (Some row) order is =
-    elim (all_orders (map f row.bases)) as (λ r. all_orders (map f row.bases) ≡ r → joined c row.bases r ≡ Some order → IsMadeOf f c (Some row) order) [
+    elim (all_orders (map f row.bases)) as (λ r. all_orders (map f row.bases) ≡ r → merged_order c row.bases r ≡ Some order → IsMadeOf f c (Some row) order) [
       | None ↦ λ _ none. cc
       | Some orders ↦ λ all whole.
           let found = prefixed-some (c ∷ []) (merge_of (orders ++ row.bases ∷ [])) order whole in
@@ -78,7 +78,7 @@ pub whole_of : (f : ℕ → Option (List ℕ)) (c : ℕ) (row_there : Option Cla
     → order_of_row f c row_there ≡ Some order
 whole_of f c row_there order made =
     ap (order_of_row f c) made.at
-    ∙ ap (joined c made.row.bases) (all-from_have f made.row.bases made.orders made.have)
+    ∙ ap (merged_order c made.row.bases) (all-from_have f made.row.bases made.orders made.have)
     ∙ ap (prefixed (c ∷ [])) made.merged
     ∙ ap (λ o. Some o) (sym made.whole)
 
@@ -141,7 +141,7 @@ bases_decide : (f : ℕ → Option (List ℕ)) (c : ℕ) (r s : Option ClassRow)
 bases_decide f c None None same = refl
 bases_decide f c None (Some s) same = cc
 bases_decide f c (Some r) None same = cc
-bases_decide f c (Some r) (Some s) same = let e : r.bases ≡ s.bases = cc in ap (λ bases. joined c bases (all_orders (map f bases))) e
+bases_decide f c (Some r) (Some s) same = let e : r.bases ≡ s.bases = cc in ap (λ bases. merged_order c bases (all_orders (map f bases))) e
 
 map_agree : (f g : ℕ → Option (List ℕ)) → ((b : ℕ) → f b ≡ g b) → (bases : List ℕ) → map f bases ≡ map g bases
 map_agree f g same [] = refl
@@ -149,7 +149,7 @@ map_agree f g same (b ∷ bases) = ap (λ r. r ∷ map f bases) (same b) ∙ ap 
 
 orders_decide : (f g : ℕ → Option (List ℕ)) → ((b : ℕ) → f b ≡ g b) → (c : ℕ) (r : Option ClassRow) → order_of_row f c r ≡ order_of_row g c r
 orders_decide f g same c None = refl
-orders_decide f g same c (Some row) = ap (λ rs. joined c row.bases (all_orders rs)) (map_agree f g same row.bases)
+orders_decide f g same c (Some row) = ap (λ rs. merged_order c row.bases (all_orders rs)) (map_agree f g same row.bases)
 
 -- the same classes are made, with the same bases
 abbrev pub HaveSameBases : List (Option ClassRow) → List (Option ClassRow) → Type 0
@@ -248,7 +248,7 @@ in_some_order n classes d bases orders have somewhere =
           ]
     ]
 
--- A class behind the first stands in the order of a base, and that order is kept.
+-- A class after the first stands in the order of a base, and that order is kept.
 pub in_base_order : (n : ℕ) (classes : List (Option ClassRow)) (c d : ℕ) (order : List ℕ) (made : IsMadeOf (order_within n classes) c (row_of classes c) order) → has d made.rest ≡ true
     → (b : ℕ) × (p : List ℕ) × (has b made.row.bases ≡ true) × (order_within n classes b ≡ Some p) × IsSubsequence p made.rest × (has d p ≡ true)
 in_base_order n classes c d order made at =
@@ -276,7 +276,7 @@ member_order (suc n) classes c d order is at =
           )
     ]
 
--- the order of a class behind the first is a part of what stands there
+-- the order of a class after the first is a part of what stands there
 pub rest_order : (n : ℕ) (classes : List (Option ClassRow)) (c d : ℕ) (order : List ℕ) (made : IsMadeOf (order_within n classes) c (row_of classes c) order) → has d made.rest ≡ true
     → (p : List ℕ) × (order_within n classes d ≡ Some p) × IsSubsequence p made.rest
 rest_order n classes c d order made at =
@@ -284,7 +284,7 @@ rest_order n classes c d order made at =
     let found = member_order n classes above.0 d above.1 above.3 above.5 in
     (found.0, found.1, subsequence-trans found.0 above.1 made.rest found.2 above.4)
 
--- a class doesn't stand behind itself
+-- a class doesn't stand after itself
 pub not_again : (n : ℕ) (classes : List (Option ClassRow)) (c : ℕ) (order : List ℕ) (made : IsMadeOf (order_within n classes) c (row_of classes c) order) → has c made.rest ≡ true → ⊥
 not_again n classes c order made at =
     let again = rest_order n classes c c order made at in

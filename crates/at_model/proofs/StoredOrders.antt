@@ -6,7 +6,7 @@ use Rattle.std.proofs.lemmas.Bool.{cases_eq, and_parts, false≢true}
 use Rattle.std.proofs.lemmas.List.{get_or-set_same, get_or-set_other, length-set}
 use Rattle.at_c3.specs.Merge.{order_of_lists}
 use Rattle.at_model.specs.declared.rows.ClassRow.{ClassRow}
-use Rattle.at_model.specs.World.{World, Map, row_of, joined, order_of_row, order_within, order_in, order_of}
+use Rattle.at_model.specs.World.{World, Map, row_of, merged_order, order_of_row, order_within, order_in, order_of}
 use Rattle.at_model.specs.Step.{first_unordered_from, first_unordered, with_class}
 use Rattle.at_model.specs.StoredOrders.{AreOrders}
 use Rattle.at_model.proofs.Orders.{HaveOrders, all-from_have, HaveSameBases, order_in-same_bases, order_in-fresh, order_within-fresh, order_in-with_room, made_below}
@@ -37,7 +37,7 @@ defined_order classes orders c row are free below made =
     let f : ℕ → Option (List ℕ) = order_within (length changed) changed in
     let have = have-from_made f orders (λ b. is_some (row_of classes b)) (λ b is. others-kept classes c b (Some row) (get_or orders b []) free (are b is)) row.bases made in
     ap (order_of_row f c) (get_or-set_same classes c (Some row) None below)
-    ∙ ap (joined c row.bases) (all-from_have f row.bases (map (λ b. get_or orders b []) row.bases) have)
+    ∙ ap (merged_order c row.bases) (all-from_have f row.bases (map (λ b. get_or orders b []) row.bases) have)
 
 -- Kept orders
 

@@ -64,14 +64,14 @@ special_on w o n (Some object) = let t = find_in w object.class n in bound_speci
 abbrev pub special_reply : World → ℕ → ℕ → reply.Reply
 special_reply w o n = special_on w o n (slice_get w.objects o)
 
--- the classes behind k in an order, where k stands in it
-abbrev pub behind : ℕ → List ℕ → Option (List ℕ)
-behind k [] = None
-behind k (c ∷ cs) = if c == k then Some cs else behind k cs
+-- the classes after k in an order, where k stands in it
+abbrev pub classes_after : ℕ → List ℕ → Option (List ℕ)
+classes_after k [] = None
+classes_after k (c ∷ cs) = if c == k then Some cs else classes_after k cs
 
-abbrev pub behind_in : ℕ → Option (List ℕ) → Option (List ℕ)
-behind_in k None = None
-behind_in k (Some order) = behind k order
+abbrev pub classes_after_in : ℕ → Option (List ℕ) → Option (List ℕ)
+classes_after_in k None = None
+classes_after_in k (Some order) = classes_after k order
 
 abbrev pub super_along : World → ℕ → ℕ → ℕ → Option (List ℕ) → reply.Reply
 super_along w o n c None = replies.NotSubclass
@@ -79,7 +79,7 @@ super_along w o n c (Some rest) = let t = find_along w.classes rest n in bound_s
 
 abbrev pub super_on : World → ℕ → ℕ → ℕ → Option Object → reply.Reply
 super_on w k o n None = replies.NoAttr
-super_on w k o n (Some object) = super_along w o n object.class (behind_in k (order_of w object.class))
+super_on w k o n (Some object) = super_along w o n object.class (classes_after_in k (order_of w object.class))
 
 -- `super(k, o).n`
 abbrev pub super_reply : World → ℕ → ℕ → ℕ → reply.Reply

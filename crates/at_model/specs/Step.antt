@@ -114,13 +114,13 @@ abbrev pub with_bases : World → ℕ → List ℕ → World
 with_bases w c bases = record w { classes = set w.classes c (Some (record { bases = bases; own = own_of (row_of w.classes c) })) }
 
 -- c stands in the order, where there is one
-abbrev pub in_order : ℕ → Option (List ℕ) → Bool
-in_order c None = false
-in_order c (Some order) = has_number c order
+abbrev pub is_in_order : ℕ → Option (List ℕ) → Bool
+is_in_order c None = false
+is_in_order c (Some order) = has_number c order
 
 -- c stands above itself, were these its bases: it stands in the order of one of them
 abbrev pub is_cycle : World → ℕ → List ℕ → Bool
-is_cycle w c bases = list_any (λ b. in_order c (order_of w b)) bases
+is_cycle w c bases = list_any (λ b. is_in_order c (order_of w b)) bases
 
 -- `c.__bases__ = bases`
 abbrev pub set_bases_effect : World → ℕ → List ℕ → Outcome

@@ -41,13 +41,13 @@ all_orders (None ∷ orders) = None
 all_orders (Some order ∷ orders) = order_before order (all_orders orders)
 
 -- the order of c with these bases, where each base has an order
-abbrev pub joined : ℕ → List ℕ → Option (List (List ℕ)) → Option (List ℕ)
-joined c bases None = None
-joined c bases (Some orders) = order_of_lists c bases orders
+abbrev pub merged_order : ℕ → List ℕ → Option (List (List ℕ)) → Option (List ℕ)
+merged_order c bases None = None
+merged_order c bases (Some orders) = order_of_lists c bases orders
 
 abbrev pub order_of_row : (ℕ → Option (List ℕ)) → ℕ → Option ClassRow → Option (List ℕ)
 order_of_row order c None = None
-order_of_row order c (Some row) = joined c row.bases (all_orders (map order row.bases))
+order_of_row order c (Some row) = merged_order c row.bases (all_orders (map order row.bases))
 
 -- The order of a class by C3: the class, and then the merge of the orders of its bases and of the list of its bases. It is
 -- computed from the bases alone, and is none where the class isn't made, where the merge is none, and where a chain of

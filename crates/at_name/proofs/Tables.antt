@@ -47,7 +47,7 @@ module _ {X : Type 0} (p : X → Bool) where
   any_none (x ∷ xs) h =
       elim (cases_Bool (p x)) [ inl e ↦ let h' = rw e at h in absurd (omega arith) | inr e ↦ let h' = rw e at h in rw e (any_none xs (omega arith)) ]
 
-  -- an item that passes, behind items that don't
+  -- an item that passes, after items that don't
   position_or_len-push : (xs : List X) (x : X) → position_or_len p xs ≡ length xs → p x ≡ true → position_or_len p (xs ++ x ∷ []) ≡ length xs
   position_or_len-push [] x h here = rw here refl
   position_or_len-push (y ∷ xs) x h here =

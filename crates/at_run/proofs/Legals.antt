@@ -16,7 +16,7 @@ use Rattle.at_line.specs.Lines.{what_of}
 use Rattle.at_line.specs.Kept.{whats_of_thread}
 use Rattle.at_line.specs.Serial.{NamesNoLimit}
 use Rattle.at_line.proofs.Serials.{serial_is_legal}
-use Rattle.at_script.specs.Parts.{Parts}
+use Rattle.at_script.specs.Parts.{ScriptParts}
 use Rattle.at_thread.specs.Runs.{numbered}
 use Rattle.at_thread.proofs.Alone.{alone_lines}
 use Rattle.at_event.proofs.OneThread.{serial_events}
@@ -46,7 +46,7 @@ of_main : (from : ℕ) (says : List what.What) → All (λ (line : Line). line.t
 of_main from [] = All-nil (λ (line : Line). line.thread ≡ 0)
 of_main from (w ∷ says) = All-cons (λ (line : Line). line.thread ≡ 0) (record { what = w; number = from; thread = 0 }) (numbered 0 (suc from) says) refl (of_main (suc from) says)
 
-pub plain_is_legal : (p : Parts) (lines : List Line) (last : final.Final) → p.threads ≡ [] → p.finally ≡ None → IsPlainRun p lines last → IsLegalRun p lines last
+pub plain_is_legal : (p : ScriptParts) (lines : List Line) (last : final.Final) → p.threads ≡ [] → p.finally ≡ None → IsPlainRun p lines last → IsLegalRun p lines last
 plain_is_legal p lines last threads finally run =
     let main : All (λ (line : Line). line.thread ≡ 0) lines = subst (All (λ (line : Line). line.thread ≡ 0)) (sym (alone_lines p lines threads finally run.runs)) (of_main 1 (whats_of_thread 0 lines)) in
     let legal = serial_is_legal program_limits 0 lines run.history main run.serial

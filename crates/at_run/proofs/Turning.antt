@@ -16,10 +16,10 @@ use Rattle.at_model.specs.Step.{step, is_write}
 use Rattle.at_model.specs.History.{after, replay}
 use Rattle.at_line.specs.Serial.{GoesOn, Adds, IsSerial, NamesNoLimit}
 use Rattle.at_model.specs.Final.{final_of}
-use Rattle.at_world.specs.Plain.{State, stepped, counted}
+use Rattle.at_world.specs.Plain.{PlainState, stepped, counted}
 use Rattle.at_line.proofs.Serials.{adds_weaker}
 use Rattle.at_model.proofs.OnlyWrites.{step-left}
-use Rattle.at_script.specs.Parts.{Parts}
+use Rattle.at_script.specs.Parts.{ScriptParts}
 use Rattle.at_thread.specs.Execution as execution
 use Rattle.at_thread.specs.Execution.{next_of, start}
 use Rattle.at_thread.specs.Executions.{Makes, Leads}
@@ -36,13 +36,13 @@ after_more w [] o = refl
 after_more w (first ∷ history) o = after_more (step w first).world history o
 
 -- a line, added to a history
-record Added (v : State) (history : List op.Op) (l : what.What) : Type 0 where
+record Added (v : PlainState) (history : List op.Op) (l : what.What) : Type 0 where
   pub longer : List op.Op
   pub world : IsWorldOf v longer
   pub adds : Adds (λ now. now ≡ longer) history l
   pub by_one : length longer ≤ suc (length history)
 
-module _ (v : State) (history : List op.Op) (o : op.Op) (became : v ≡ stepped (record { world = replay history; place = length history }) o) (room : length history + 1 < 2 ^ 64) where
+module _ (v : PlainState) (history : List op.Op) (o : op.Op) (became : v ≡ stepped (record { world = replay history; place = length history }) o) (room : length history + 1 < 2 ^ 64) where
   abbrev goes : Bool → List op.Op → ℕ → Type 0
   goes b longer place = GoesOn (λ now. now ≡ longer) b history place o
 
@@ -56,31 +56,31 @@ module _ (v : State) (history : List op.Op) (o : op.Op) (became : v ≡ stepped 
   gone : (place : ℕ) (b : Bool) → is_write (replay history) o ≡ b → place ≡ v.place → Gone place
   gone place true writes at =
       let one : length (history ++ o ∷ []) ≡ length history + 1 = length-append history (o ∷ []) in
-      let counts : v.place ≡ counted (length history) = ap (λ (s : State). s.place) became ∙ ap (λ (b : Bool). if b then counted (length history) else length history) writes in
+      let counts : v.place ≡ counted (length history) = ap (λ (s : PlainState). s.place) became ∙ ap (λ (b : Bool). if b then counted (length history) else length history) writes in
       let next : counted (length history) ≡ suc (length history) = omega arith in
       record {
         longer = history ++ o ∷ [];
-        world = (ap (λ (s : State). s.world) became ∙ sym (after_more opening history o), omega arith);
+        world = (ap (λ (s : PlainState). s.world) became ∙ sym (after_more opening history o), omega arith);
         goes_on = subst (λ b. goes b (history ++ o ∷ []) place) (sym writes) (omega arith, refl);
         by_one = omega arith;
       }
   gone place false reads at =
-      let counts : v.place ≡ length history = ap (λ (s : State). s.place) became ∙ ap (λ (b : Bool). if b then counted (length history) else length history) reads in
+      let counts : v.place ≡ length history = ap (λ (s : PlainState). s.place) became ∙ ap (λ (b : Bool). if b then counted (length history) else length history) reads in
       record {
         longer = history;
-        world = (ap (λ (s : State). s.world) became ∙ step-left (replay history) o reads, counts);
+        world = (ap (λ (s : PlainState). s.world) became ∙ step-left (replay history) o reads, counts);
         goes_on = subst (λ b. goes b history place) (sym reads) (at ∙ counts, refl);
         by_one = omega arith;
       }
 
 -- the begin and the end of a section stand at the end of the history
-unmoved : (w v : State) (history : List op.Op) (place : ℕ) → (v ≡ w) × (place ≡ w.place) → IsWorldOf w history → IsWorldOf v history × (place ≡ length history)
-unmoved w v history place told stands = (subst (λ (s : State). IsWorldOf s history) (sym told.0) stands, told.1 ∙ stands.1)
+unmoved : (w v : PlainState) (history : List op.Op) (place : ℕ) → (v ≡ w) × (place ≡ w.place) → IsWorldOf w history → IsWorldOf v history × (place ≡ length history)
+unmoved w v history place told stands = (subst (λ (s : PlainState). IsWorldOf s history) (sym told.0) stands, told.1 ∙ stands.1)
 
-told_adds : (w v : State) (history : List op.Op) (l : what.What) → Tells w l v → IsWorldOf w history → length history + 1 < 2 ^ 64 → Added v history l
+told_adds : (w v : PlainState) (history : List op.Op) (l : what.What) → Tells w l v → IsWorldOf w history → length history + 1 < 2 ^ 64 → Added v history l
 told_adds w v history (whats.Did place path (line_ops.Of o) r) told stands room =
     let same : w ≡ record { world = replay history; place = length history } = ap (λ (x : World). record { world = x; place = w.place }) stands.0 ∙ ap (λ (n : ℕ). record { world = replay history; place = n }) stands.1 in
-    let g = gone v history o (told.1 ∙ ap (λ (s : State). stepped s o) same) room place.0 (is_write (replay history) o) refl told.2 in
+    let g = gone v history o (told.1 ∙ ap (λ (s : PlainState). stepped s o) same) room place.0 (is_write (replay history) o) refl told.2 in
     record {
       longer = g.longer;
       world = g.world;
@@ -89,7 +89,7 @@ told_adds w v history (whats.Did place path (line_ops.Of o) r) told stands room 
     }
 told_adds w v history (whats.Did place path (line_ops.Begin a b) r) told stands room = let k = unmoved w v history place.0 told stands in record { longer = history; world = k.0; adds = (k.1, refl); by_one = omega arith }
 told_adds w v history (whats.Did place path line_ops.Finish r) told stands room = let k = unmoved w v history place.0 told stands in record { longer = history; world = k.0; adds = (k.1, refl); by_one = omega arith }
-told_adds w v history (whats.Local l) told stands room = record { longer = history; world = subst (λ (s : State). IsWorldOf s history) (sym told) stands; adds = refl; by_one = omega arith }
+told_adds w v history (whats.Local l) told stands room = record { longer = history; world = subst (λ (s : PlainState). IsWorldOf s history) (sym told) stands; adds = refl; by_one = omega arith }
 
 -- one more line
 serial_more : (history : List op.Op) (says : List what.What) (middle : List op.Op) (l : what.What) (last : List op.Op) → IsSerial history says middle → Adds (λ now. now ≡ last) middle l → IsSerial history (says ++ l ∷ []) last
@@ -98,7 +98,7 @@ serial_more history (w ∷ says) middle l last s a =
     adds_weaker (λ longer. IsSerial longer says middle) (λ longer. IsSerial longer (says ++ l ∷ []) last) history w (λ longer k. serial_more longer says middle l last k a) s
 
 -- a turn without a line
-pub leading_silent : (p : Parts) (s : execution.State) (says : List what.What) (t u : execution.State) (w v : State) → Leading p s says t w → Makes (next_of p t) [] u → v ≡ w → Leading p s says u v
+pub leading_silent : (p : ScriptParts) (s : execution.ThreadState) (says : List what.What) (t u : execution.ThreadState) (w v : PlainState) → Leading p s says t w → Makes (next_of p t) [] u → v ≡ w → Leading p s says u v
 leading_silent p s says t u w v h makes same = record {
   steps = suc h.steps;
   leads = subst (λ (ws : List what.What). Leads p (suc h.steps) s ws u) (append-nil says) (leads_more p h.steps s says t [] u h.leads makes);
@@ -106,11 +106,11 @@ leading_silent p s says t u w v h makes same = record {
   serial = h.serial;
   short = h.short;
   plain = h.plain;
-  world = subst (λ (x : State). IsWorldOf x h.history) (sym same) h.world;
+  world = subst (λ (x : PlainState). IsWorldOf x h.history) (sym same) h.world;
 }
 
 -- a turn with a line
-pub leading_says : (p : Parts) (s : execution.State) (says : List what.What) (t u : execution.State) (w v : State) (l : what.What) → Leading p s says t w → Makes (next_of p t) (l ∷ []) u → Tells w l v → IsPlain l → length says + 1 < 2 ^ 64
+pub leading_says : (p : ScriptParts) (s : execution.ThreadState) (says : List what.What) (t u : execution.ThreadState) (w v : PlainState) (l : what.What) → Leading p s says t w → Makes (next_of p t) (l ∷ []) u → Tells w l v → IsPlain l → length says + 1 < 2 ^ 64
     → Leading p s (says ++ l ∷ []) u v
 leading_says p s says t u w v l h makes tells plain room =
     let short = h.short in
@@ -134,7 +134,7 @@ own_plain (locals.Worn sequence) h = absurd h
 own_plain l h = tt
 
 -- where no line was written yet, and the world is the opening one
-pub leading_start : (p : Parts) (s : execution.State) (w : State) → w ≡ record { world = opening; place = 0 } → Leading p s [] s w
+pub leading_start : (p : ScriptParts) (s : execution.ThreadState) (w : PlainState) → w ≡ record { world = opening; place = 0 } → Leading p s [] s w
 leading_start p s w is = record {
   steps = 0;
   leads = (refl, refl);
@@ -142,11 +142,11 @@ leading_start p s w is = record {
   serial = refl;
   short = omega arith;
   plain = All-nil IsPlain;
-  world = (ap (λ (x : State). x.world) is, ap (λ (x : State). x.place) is);
+  world = (ap (λ (x : PlainState). x.world) is, ap (λ (x : PlainState). x.place) is);
 }
 
 -- there are at most two lines a statement that the script allows, and one more
-pub few_lines : (p : Parts) (count : ℕ) (s : execution.State) → Few p count s → count ≤ 2 * p.budget + 1
+pub few_lines : (p : ScriptParts) (count : ℕ) (s : execution.ThreadState) → Few p count s → count ≤ 2 * p.budget + 1
 few_lines p count s h =
     let most = spare_most s.frames in
     let few = h.few in
@@ -165,7 +165,7 @@ all_numbered P thread from (w ∷ says) all =
 
 -- Lines that run the block `main` to its end, on the data model from the opening world on, are the plain run of a script
 -- without other blocks.
-pub plain_run : (p : Parts) (says : List what.What) (end : execution.State) (w : State) (last : final.Final) → p.threads ≡ [] → p.finally ≡ None → next_of p end ≡ execution.ended → Leading p (start p.main (unbound p)) says end w → last ≡ final_of w.world → IsPlainRun p (numbered 0 1 says) last
+pub plain_run : (p : ScriptParts) (says : List what.What) (end : execution.ThreadState) (w : PlainState) (last : final.Final) → p.threads ≡ [] → p.finally ≡ None → next_of p end ≡ execution.ended → Leading p (start p.main (unbound p)) says end w → last ≡ final_of w.world → IsPlainRun p (numbered 0 1 says) last
 plain_run p says end w last threads finally ends h is = record {
   runs = alone_run p says end threads finally (ends, h.steps, h.leads);
   history = h.history;

@@ -23,9 +23,9 @@ use Rattle.at_model.specs.Step.{step, is_write}
 use Rattle.at_model.specs.History.{replay}
 use Rattle.at_model.specs.Final.{final_of}
 use Rattle.at_line.specs.Serial.{GoesOn, Adds, IsSerial}
-use Rattle.at_thread.specs.declared.demand.Use as used
-use Rattle.at_script.specs.Parts.{Parts}
-use Rattle.at_thread.specs.Execution.{State, Next, ended, silent, says, asks, taken, next_of, start}
+use Rattle.at_thread.specs.declared.next.ReplyUse as used
+use Rattle.at_script.specs.Parts.{ScriptParts}
+use Rattle.at_thread.specs.Execution.{ThreadState, Transition, ended, silent, says, asks, taken, next_of, start}
 use Rattle.at_thread.specs.Executions.{reply_taken, stands_for, TakesReply, Answers, Fits, Leads}
 use Rattle.at_thread.specs.Runs.{numbered, unbound}
 use Rattle.at_thread.proofs.Numbering.{whats_of_numbered}
@@ -33,7 +33,7 @@ use Rattle.at_thread.proofs.Alone.{alone_lines}
 use Rattle.at_run.specs.PlainRun.{IsPlain}
 use Rattle.at_run.specs.Laws.{PlainRunsAreOne}
 
--- the history behind an operation
+-- the history after an operation
 abbrev next_history : List op.Op → line_op.LineOp → List op.Op
 next_history history (line_ops.Of o) = if is_write (replay history) o then history ++ o ∷ [] else history
 next_history history o = history
@@ -52,12 +52,12 @@ abbrev next_line : List op.Op → line_op.LineOp → what.What
 next_line history o = whats.Did (record { 0 = next_place history o }) paths.Locked o (next_reply history o)
 
 -- What a line of an operation is, at the end of a history, and where it leads.
-record Alone (on : List op.Op → Type 0) (goes : State → Type 0) (u : used.Use) (s : State) (history : List op.Op) (o : line_op.LineOp) (w : what.What) : Type 0 where
+record Alone (on : List op.Op → Type 0) (goes : ThreadState → Type 0) (u : used.ReplyUse) (s : ThreadState) (history : List op.Op) (o : line_op.LineOp) (w : what.What) : Type 0 where
   pub line : w ≡ next_line history o
   pub rest : on (next_history history o)
   pub taken_on : TakesReply goes u s (reply_taken o (next_reply history o))
 
-begin_replied : (goes : State → Type 0) (u : used.Use) (s : State) (a : ℕ) (b : Option ℕ) (r : line_reply.LineReply) → TakesReply goes u s (reply_taken (line_ops.Begin a b) r) → r ≡ line_replies.Of replies.Done
+begin_replied : (goes : ThreadState → Type 0) (u : used.ReplyUse) (s : ThreadState) (a : ℕ) (b : Option ℕ) (r : line_reply.LineReply) → TakesReply goes u s (reply_taken (line_ops.Begin a b) r) → r ≡ line_replies.Of replies.Done
 begin_replied goes u s a b (line_replies.Of replies.Done) h = refl
 begin_replied goes u s a b r h = absurd h
 
@@ -67,7 +67,7 @@ line_is place n way p o r q at locked same replied =
     ∙ (ap (λ (x : path.Path). whats.Did (record { 0 = n }) x p r) locked
     ∙ (ap (λ (x : line_op.LineOp). whats.Did (record { 0 = n }) paths.Locked x r) same ∙ ap (λ (x : line_reply.LineReply). whats.Did (record { 0 = n }) paths.Locked o x) replied))
 
-module _ (on : List op.Op → Type 0) (goes : State → Type 0) (u : used.Use) (s : State) (history : List op.Op) where
+module _ (on : List op.Op → Type 0) (goes : ThreadState → Type 0) (u : used.ReplyUse) (s : ThreadState) (history : List op.Op) where
   gone : (b : Bool) (o : op.Op) (place : ℕ) → GoesOn on b history place o → (place ≡ (if b then suc (length history) else length history)) × on (if b then history ++ o ∷ [] else history)
   gone true o place h = h
   gone false o place h = h
@@ -110,9 +110,9 @@ module _ (on : List op.Op → Type 0) (goes : State → Type 0) (u : used.Use) (
 abbrev Same : List what.What → List what.What → List op.Op → List op.Op → Type 0
 Same first second one other = (first ≡ second) × (one ≡ other)
 
-module _ (on off : State → List what.What → Type 0) (one other : List op.Op)
-    (same : (s : State) (first second : List what.What) (history : List op.Op) → on s first → off s second → IsSerial history first one → IsSerial history second other → All IsPlain first → All IsPlain second → Same first second one other) where
-  both : (next : Next) (first second : List what.What) (history : List op.Op) → Fits on next first → Fits off next second → IsSerial history first one → IsSerial history second other → All IsPlain first → All IsPlain second → Same first second one other
+module _ (on off : ThreadState → List what.What → Type 0) (one other : List op.Op)
+    (same : (s : ThreadState) (first second : List what.What) (history : List op.Op) → on s first → off s second → IsSerial history first one → IsSerial history second other → All IsPlain first → All IsPlain second → Same first second one other) where
+  both : (next : Transition) (first second : List what.What) (history : List op.Op) → Fits on next first → Fits off next second → IsSerial history first one → IsSerial history second other → All IsPlain first → All IsPlain second → Same first second one other
   both ended first second history f g a b x y = absurd f
   both (silent s) first second history f g a b x y = same s first second history f g a b x y
   both (says l s) [] second history f g a b x y = absurd f
@@ -136,9 +136,9 @@ module _ (on off : State → List what.What → Type 0) (one other : List op.Op)
       took (Some q) c d e h = same (taken k q s) first second (next_history history o) c d e h (All-tail IsPlain w first x) (All-tail IsPlain v second y)
 
 -- nothing leads on from a state that has ended
-stays : (p : Parts) (n : ℕ) (s : State) (lines : List what.What) (u : State) → next_of p s ≡ ended → Leads p n s lines u → lines ≡ []
+stays : (p : ScriptParts) (n : ℕ) (s : ThreadState) (lines : List what.What) (u : ThreadState) → next_of p s ≡ ended → Leads p n s lines u → lines ≡ []
 stays p zero s lines u e l = l.0
-stays p (suc n) s lines u e l = absurd (subst (λ (next : Next). Fits (λ x rest. Leads p n x rest u) next lines) e l)
+stays p (suc n) s lines u e l = absurd (subst (λ (next : Transition). Fits (λ x rest. Leads p n x rest u) next lines) e l)
 
 nothing : (first second : List what.What) (history one other : List op.Op) → first ≡ [] → second ≡ [] → IsSerial history first one → IsSerial history second other → Same first second one other
 nothing first second history one other f g a b = (
@@ -146,7 +146,7 @@ nothing first second history one other f g a b = (
   sym (subst (λ (ws : List what.What). IsSerial history ws one) f a) ∙ subst (λ (ws : List what.What). IsSerial history ws other) g b,
 )
 
-same_leads : (p : Parts) (n m : ℕ) (s : State) (first second : List what.What) (t u : State) (history one other : List op.Op) → next_of p t ≡ ended → next_of p u ≡ ended → Leads p n s first t → Leads p m s second u
+same_leads : (p : ScriptParts) (n m : ℕ) (s : ThreadState) (first second : List what.What) (t u : ThreadState) (history one other : List op.Op) → next_of p t ≡ ended → next_of p u ≡ ended → Leads p n s first t → Leads p m s second u
     → IsSerial history first one → IsSerial history second other → All IsPlain first → All IsPlain second → Same first second one other
 same_leads p zero m s first second t u history one other et eu l k a b x y = nothing first second history one other l.0 (stays p m s second u (ap (next_of p) l.1 ∙ et) k) a b
 same_leads p (suc n) zero s first second t u history one other et eu l k a b x y = nothing first second history one other (stays p (suc n) s first t (ap (next_of p) k.1 ∙ eu) l) k.0 a b

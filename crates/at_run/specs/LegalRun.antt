@@ -6,11 +6,11 @@ use Rattle.at_model.specs.History.{replay}
 use Rattle.at_model.specs.Final.{final_of}
 use Rattle.at_line.specs.declared.line.Line.{Line}
 use Rattle.at_line.specs.Legal.{IsLegal}
-use Rattle.at_script.specs.Parts.{Parts}
+use Rattle.at_script.specs.Parts.{ScriptParts}
 use Rattle.at_thread.specs.Runs.{IsRunOf}
 
 -- The lines run the script and are legal, and the last namespaces are those after all their writes.
-pub record IsLegalRun (s : Parts) (lines : List Line) (last : final.Final) : Type 0 where
+pub record IsLegalRun (s : ScriptParts) (lines : List Line) (last : final.Final) : Type 0 where
   pub runs : IsRunOf s lines
   pub legal : IsLegal program_limits lines
   pub ends : last ≡ final_of (replay legal.history)

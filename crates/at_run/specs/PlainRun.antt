@@ -13,7 +13,7 @@ use Rattle.at_model.specs.History.{replay}
 use Rattle.at_model.specs.Final.{final_of}
 use Rattle.at_line.specs.Lines.{what_of}
 use Rattle.at_line.specs.Serial.{IsSerial}
-use Rattle.at_script.specs.Parts.{Parts}
+use Rattle.at_script.specs.Parts.{ScriptParts}
 use Rattle.at_thread.specs.Runs.{IsRunOf}
 
 -- each operation goes under locks, each section is kept, and no line comes to a limit
@@ -26,7 +26,7 @@ IsPlain (whats.Local local) = Unit {0}
 
 -- The lines run the script, one after another: those of `main`, of each thread in turn and of `finally`. Each stands at the
 -- end of the history so far, with the reply of the data model there, and the last namespaces are those after all of them.
-pub record IsPlainRun (s : Parts) (lines : List Line) (last : final.Final) : Type 0 where
+pub record IsPlainRun (s : ScriptParts) (lines : List Line) (last : final.Final) : Type 0 where
   pub runs : IsRunOf s lines
   pub history : List op.Op
   pub serial : IsSerial [] (map what_of lines) history

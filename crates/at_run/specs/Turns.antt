@@ -8,8 +8,8 @@ use Rattle.at_line.specs.declared.line.What.TheVariants as whats
 use Rattle.at_model.specs.Step.{step}
 use Rattle.at_model.specs.History.{replay}
 use Rattle.at_line.specs.Serial.{IsSerial}
-use Rattle.at_world.specs.Plain.{State, stepped}
-use Rattle.at_script.specs.Parts.{Parts}
+use Rattle.at_world.specs.Plain.{PlainState, stepped}
+use Rattle.at_script.specs.Parts.{ScriptParts}
 use Rattle.at_thread.specs.Execution as execution
 use Rattle.at_thread.specs.Execution.{next_of, ended}
 use Rattle.at_thread.specs.Executions.{Makes, Leads}
@@ -19,28 +19,28 @@ use Rattle.at_run.specs.PlainRun.{IsPlain}
 
 -- The line was done on the world: the operation has its reply and the place after it, and the world is that after its
 -- step. The begin and the end of a section change nothing, and have the place as it stands.
-abbrev pub Tells : State → what.What → State → Type 0
+abbrev pub Tells : PlainState → what.What → PlainState → Type 0
 Tells w (whats.Did place path (line_ops.Of operation) reply) v = (reply ≡ line_replies.Of (step w.world operation).reply) × (v ≡ stepped w operation) × (place.0 ≡ v.place)
 Tells w (whats.Did place path operation reply) v = (v ≡ w) × (place.0 ≡ w.place)
 Tells w (whats.Local local) v = v ≡ w
 
 -- what a turn does to the thread
-abbrev pub Moves : Parts → execution.State → turns_of.Turn → execution.State → Type 0
+abbrev pub Moves : ScriptParts → execution.ThreadState → turns_of.Turn → execution.ThreadState → Type 0
 Moves p s turns.Ended t = next_of p s ≡ ended
 Moves p s turns.Silent t = Makes (next_of p s) [] t
 Moves p s (turns.Says w) t = Makes (next_of p s) (w ∷ []) t
 
 -- and to the world
-abbrev pub TellsIn : State → turns_of.Turn → State → Type 0
+abbrev pub TellsIn : PlainState → turns_of.Turn → PlainState → Type 0
 TellsIn w (turns.Says l) v = Tells w l v × IsPlain l
 TellsIn w t v = v ≡ w
 
 -- the world is that of this history
-abbrev pub IsWorldOf : State → List op.Op → Type 0
+abbrev pub IsWorldOf : PlainState → List op.Op → Type 0
 IsWorldOf w history = (w.world ≡ replay history) × (w.place ≡ length history)
 
 -- These lines lead from one thread and history to another.
-pub record Leading (p : Parts) (s : execution.State) (lines : List what.What) (t : execution.State) (w : State) : Type 0 where
+pub record Leading (p : ScriptParts) (s : execution.ThreadState) (lines : List what.What) (t : execution.ThreadState) (w : PlainState) : Type 0 where
   pub steps : ℕ
   pub leads : Leads p steps s lines t
   pub history : List op.Op

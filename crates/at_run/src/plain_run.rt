@@ -11,7 +11,7 @@ ghost use Rattle.at_run.specs.Turns.{Tells, Moves, TellsIn, Leading};
 
 use at_line::{Line, LineOp, LineReply, Ran, What};
 use at_script::{Block, Script, Stmt};
-use at_thread::{Demand, Thread, Use};
+use at_thread::{Next, ReplyUse, Thread};
 use at_value::{Path, Reply, Sequence, Value};
 use at_world::Plain;
 use std::alloc::{AllocError, Global};
@@ -46,7 +46,7 @@ pub fn run_main(alloc: Global, script: &Script) -> Result<Ran, AllocError>
 /// Runs the block `main` to its end: its lines.
 fn run_block(alloc: Global, plain: &mut Plain, script: &Script) -> Result<Vec<Line>, AllocError>
     requires { plain.old ≡ record { world = opening; place = 0 } }
-    ensures { IfOk result (λ lines. (says : List what.What) × (end : execution.State) × (lines.items ≡ numbered 0 1 says) × (execution.next_of script.now end ≡ execution.ended) × Leading script.now (execution.start script.now.main (replicate (length script.now.vars) None)) says end plain.new) }
+    ensures { IfOk result (λ lines. (says : List what.What) × (end : execution.ThreadState) × (lines.items ≡ numbered 0 1 says) × (execution.next_of script.now end ≡ execution.ended) × Leading script.now (execution.start script.now.main (replicate (length script.now.vars) None)) says end plain.new) }
 {
     let variables = unbound(alloc, script.vars())?;
     let mut thread = Thread::new(alloc, statements_of_main(script), variables)?;
@@ -102,15 +102,20 @@ fn take_turn<'a>(
     ensures tells { IfOk result (λ turn. TellsIn plain.old turn plain.new) }
 {
     match thread.next(script) {
-        Demand::Ended => Ok(Turn::Ended),
-        Demand::Silent => Ok(Turn::Silent),
-        Demand::Says(local) => Ok(Turn::Says(What::Local(local))),
-        Demand::Asks(op, used) => Ok(Turn::Says(did(plain, thread, &op, &used)?)),
+        Next::Ended => Ok(Turn::Ended),
+        Next::Silent => Ok(Turn::Silent),
+        Next::Says(local) => Ok(Turn::Says(What::Local(local))),
+        Next::Asks(op, used) => Ok(Turn::Says(did(plain, thread, &op, &used)?)),
     }
 }
 
 /// Does the operation that a thread asks for: what its line says.
-fn did(plain: &mut Plain, thread: &mut Thread, op: &LineOp, used: &Use) -> Result<What, AllocError>
+fn did(
+    plain: &mut Plain,
+    thread: &mut Thread,
+    op: &LineOp,
+    used: &ReplyUse,
+) -> Result<What, AllocError>
     ensures answers { IfOk result (λ what. Answers (λ t. t ≡ state_of thread.new) op.now used.now (state_of thread.old) what) }
     ensures tells { IfOk result (λ what. Tells plain.old what plain.new × IsPlain what) }
 {

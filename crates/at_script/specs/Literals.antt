@@ -4,8 +4,8 @@ use Rattle.std.specs.Option.{option_map, option_copied}
 use Rattle.std.specs.List.{slice_split}
 use Rattle.at_script.specs.declared.literal.Literal.{Literal}
 use Rattle.at_script.specs.declared.literal.Literal.TheVariants.{Nothing, Int, Text, Word, Static, ClassM, Prop}
-use Rattle.at_script.specs.Pieces.{two_of, three_of}
-use Rattle.at_script.specs.Words.{identifier_of, class_word_of, number_of}
+use Rattle.at_script.specs.Pieces.{two_parts, three_parts}
+use Rattle.at_script.specs.Words.{identifier_of, class_word_of, integer_of}
 
 infixl 10 ◌>>=◌
 abbrev pub ◌>>=◌ : {A B : Type 0} → Option A → (A → Option B) → Option B
@@ -40,7 +40,7 @@ abbrev pub within_quotes : List ℕ × List ℕ × List ℕ → Option (List ℕ
 within_quotes parts = if length parts.0 == 0 && length parts.2 == 0 then identifier_of parts.1 else None
 
 abbrev pub quoted_of : List ℕ → Option (List ℕ)
-quoted_of word = three_of (slice_split (λ b. b == 34) word) >>= within_quotes
+quoted_of word = three_parts (slice_split (λ b. b == 34) word) >>= within_quotes
 
 -- a function of a property, or `-` where it has none
 abbrev pub function_of : List ℕ → Option (Option (List ℕ))
@@ -49,7 +49,7 @@ function_of word = if bytes_eq word (codes "-") then Some None else option_map S
 -- `P,P,P`: what reads, what writes and what deletes; 44 is the code of a comma
 abbrev pub property_of : List ℕ → Option Written
 property_of word = do
-  parts ← three_of (slice_split (λ b. b == 44) word)
+  parts ← three_parts (slice_split (λ b. b == 44) word)
   get ← function_of parts.0
   set ← function_of parts.1
   del ← function_of parts.2
@@ -66,11 +66,11 @@ wrapped sides =
 
 -- 58 is the code of a colon
 abbrev pub wrapped_of : List ℕ → Option Written
-wrapped_of word = two_of (slice_split (λ b. b == 58) word) >>= wrapped
+wrapped_of word = two_parts (slice_split (λ b. b == 58) word) >>= wrapped
 
 -- `none`, a number, a text, the name of a class, a function or a variable, or a function that is wrapped
 abbrev pub value_of : List ℕ → Option Written
 value_of word =
     if bytes_eq word (codes "none")
     then Some nothing
-    else or (option_map named (class_word_of word)) (or (option_map integer (number_of word)) (or (option_map quoted (quoted_of word)) (wrapped_of word)))
+    else or (option_map named (class_word_of word)) (or (option_map integer (integer_of word)) (or (option_map quoted (quoted_of word)) (wrapped_of word)))

@@ -6,7 +6,7 @@ use Rattle.at_script.specs.declared.stmt.Block.{Block}
 use Rattle.at_script.specs.declared.stmt.Block.TheVariants.{Main, Thread, Finally, Func}
 
 -- Texts and functions are known by their places in these lists; `bodies` has the statements of each function.
-pub record Parts : Type 0 where
+pub record ScriptParts : Type 0 where
   pub budget : ℕ
   pub names : List (List ℕ)
   pub classes : List (List ℕ)
@@ -18,7 +18,7 @@ pub record Parts : Type 0 where
   pub finally : Option (List Stmt)
 
 -- a script of the block `main` and functions without statements
-abbrev pub script_with : ℕ → List Stmt → Tables → Parts
+abbrev pub script_with : ℕ → List Stmt → Tables → ScriptParts
 script_with budget main t = record {
   budget = budget;
   names = t.names;
@@ -32,7 +32,7 @@ script_with budget main t = record {
 }
 
 -- the statements of a block, where the script has it
-abbrev pub block_of : Parts → Block → Option (List Stmt)
+abbrev pub block_of : ScriptParts → Block → Option (List Stmt)
 block_of s Main = Some s.main
 block_of s (Thread number) = slice_get s.threads number
 block_of s Finally = s.finally

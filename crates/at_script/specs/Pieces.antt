@@ -45,7 +45,7 @@ kept Colon parts = parts
 kept Comma parts = parts
 kept Quote parts = parts
 
--- the parts of what stands behind a separator, where anything does
+-- the parts of what stands after a separator, where anything does
 abbrev pub parts_after : Part → Option (Bor (List ℕ)) → List (List ℕ)
 parts_after part None = []
 parts_after part (Some bytes) = slice_split (separates part) bytes.now
@@ -55,10 +55,10 @@ abbrev pub pieces_left : Pieces → List (List ℕ)
 pieces_left p = kept p.part (parts_after p.part p.rest)
 
 -- the one element, where there is one
-abbrev pub one_of : {X : Type 0} → List X → Option X
-one_of [] = None
-one_of (x ∷ []) = Some x
-one_of (x ∷ y ∷ rest) = None
+abbrev pub one_part : {X : Type 0} → List X → Option X
+one_part [] = None
+one_part (x ∷ []) = Some x
+one_part (x ∷ y ∷ rest) = None
 
 -- an element before the one that follows
 abbrev pub two_with : {X : Type 0} → X → Option X → Option (X × X)
@@ -66,9 +66,9 @@ two_with x None = None
 two_with x (Some y) = Some (x, y)
 
 -- the two elements, where there are two
-abbrev pub two_of : {X : Type 0} → List X → Option (X × X)
-two_of [] = None
-two_of (x ∷ rest) = two_with x (one_of rest)
+abbrev pub two_parts : {X : Type 0} → List X → Option (X × X)
+two_parts [] = None
+two_parts (x ∷ rest) = two_with x (one_part rest)
 
 -- an element before the two that follow
 abbrev pub three_with : {X : Type 0} → X → Option (X × X) → Option (X × X × X)
@@ -76,9 +76,9 @@ three_with x None = None
 three_with x (Some p) = Some (x, p.0, p.1)
 
 -- the three elements, where there are three
-abbrev pub three_of : {X : Type 0} → List X → Option (X × X × X)
-three_of [] = None
-three_of (x ∷ rest) = three_with x (two_of rest)
+abbrev pub three_parts : {X : Type 0} → List X → Option (X × X × X)
+three_parts [] = None
+three_parts (x ∷ rest) = three_with x (two_parts rest)
 
 -- what three references lead to
 abbrev pub all_now : Bor (List ℕ) × Bor (List ℕ) × Bor (List ℕ) → List ℕ × List ℕ × List ℕ

@@ -7,8 +7,8 @@ use Rattle.at_script.specs.declared.stmt.Stmt.{Stmt}
 use Rattle.at_name.specs.Texts.{interned}
 use Rattle.at_script.specs.Literals.{◌>>=◌}
 use Rattle.at_script.specs.Shapes.{words_say}
-use Rattle.at_script.specs.Tables.{numbered}
-use Rattle.at_script.specs.Script.{words_of, has_only}
+use Rattle.at_script.specs.Tables.{statement_in}
+use Rattle.at_script.specs.Script.{words_in, has_only}
 
 -- the classes with that of a line, where it declares one
 abbrev pub with_declared : List (List ℕ) → Option (List ℕ) → Option (List (List ℕ))
@@ -17,7 +17,7 @@ with_declared classes (Some class) = option_map (λ found. found.1) (interned wi
 
 -- the statement of a line, and the texts with its own
 abbrev pub stated : Tables → List ℕ → Option (Stmt × Tables)
-stated t line = words_say (words_of line) >>= numbered t
+stated t line = words_say (words_in line) >>= statement_in t
 
 -- the statements with one more at the end
 abbrev pub with_statement : List Stmt → Stmt × Tables → List Stmt × Tables

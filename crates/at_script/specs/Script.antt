@@ -15,12 +15,12 @@ use Rattle.std.specs.List.{slice_split, ends_with, filter, filter_map, list_all}
 use Rattle.at_value.specs.Widths as widths
 use Rattle.at_script.specs.declared.tables.Tables.{Tables}
 use Rattle.at_script.specs.declared.stmt.Stmt.{Stmt}
-use Rattle.at_script.specs.Parts.{Parts, script_with}
-use Rattle.at_script.specs.Pieces.{is_blank, is_said, is_word, one_of, two_of}
+use Rattle.at_script.specs.Parts.{ScriptParts, script_with}
+use Rattle.at_script.specs.Pieces.{is_blank, is_said, is_word, one_part, two_parts}
 use Rattle.at_name.specs.Texts.{place_of, interned, all_interned}
 use Rattle.at_script.specs.Literals.{◌>>=◌}
 use Rattle.at_script.specs.Shapes.{Said, words_say, declared_by}
-use Rattle.at_script.specs.Tables.{opening, func_at, numbered}
+use Rattle.at_script.specs.Tables.{opening, func_at, statement_in}
 use Rattle.at_script.specs.Words.{identifier_of}
 
 -- a newline, a tab, a carriage return, or a character of ASCII that prints
@@ -40,8 +40,8 @@ abbrev pub lines_of : List ℕ → List (List ℕ)
 lines_of bytes = slice_split (λ b. b == 10) (without_last_newline bytes)
 
 -- the words between blanks
-abbrev pub words_of : List ℕ → List (List ℕ)
-words_of line = filter is_word (slice_split is_blank line)
+abbrev pub words_in : List ℕ → List (List ℕ)
+words_in line = filter is_word (slice_split is_blank line)
 
 -- whether it is this word, and there is one
 abbrev pub is_this : List ℕ → Option (List ℕ) → Bool
@@ -50,7 +50,7 @@ is_this word (Some other) = bytes_eq other word
 
 -- whether the line has this word and no other
 abbrev pub has_only : List ℕ → List ℕ → Bool
-has_only word line = is_this word (one_of (words_of line))
+has_only word line = is_this word (one_part (words_in line))
 
 -- whether they are these two words, and there are two
 abbrev pub are_these : List ℕ → List ℕ → Option (List ℕ × List ℕ) → Bool
@@ -59,29 +59,29 @@ are_these first second (Some words) = bytes_eq words.0 first && bytes_eq words.1
 
 -- the line `attrs 1`
 abbrev pub is_header : List ℕ → Bool
-is_header line = are_these (codes "attrs") (codes "1") (two_of (words_of line))
+is_header line = are_these (codes "attrs") (codes "1") (two_parts (words_in line))
 
--- the lines behind the header; such as say nothing are skipped, but for the first
+-- the lines after the header; such as say nothing are skipped, but for the first
 abbrev pub headed : List (List ℕ) → Option (List (List ℕ))
 headed [] = None
 headed (header ∷ lines) = if is_header header then Some (filter is_said lines) else None
 
--- the identifier behind the word `func`
+-- the identifier after the word `func`
 abbrev pub func_named : Option (List ℕ × List ℕ) → Option (List ℕ)
 func_named None = None
 func_named (Some words) = if bytes_eq words.0 (codes "func") then identifier_of words.1 else None
 
 -- the function of a line `func F`
 abbrev pub func_of : List ℕ → Option (List ℕ)
-func_of line = func_named (two_of (words_of line))
+func_of line = func_named (two_parts (words_in line))
 
--- The lines behind the line `main`. Before it stand functions, each a line `func F` and a line `end`; where such a line
+-- The lines after the line `main`. Before it stand functions, each a line `func F` and a line `end`; where such a line
 -- `func F` comes before these lines, `end` is still to come.
-abbrev pub behind_funcs : Bool → List (List ℕ) → Option (List (List ℕ))
-behind_funcs opened [] = None
-behind_funcs true (line ∷ lines) = if has_only (codes "end") line then behind_funcs false lines else None
-behind_funcs false (line ∷ lines) =
-    if has_only (codes "main") line then Some lines else if is_some (func_of line) then behind_funcs true lines else None
+abbrev pub after_funcs : Bool → List (List ℕ) → Option (List (List ℕ))
+after_funcs opened [] = None
+after_funcs true (line ∷ lines) = if has_only (codes "end") line then after_funcs false lines else None
+after_funcs false (line ∷ lines) =
+    if has_only (codes "main") line then Some lines else if is_some (func_of line) then after_funcs true lines else None
 
 -- the functions that lines declare
 abbrev pub funcs_in : List (List ℕ) → List (List ℕ)
@@ -97,13 +97,13 @@ before_end (line ∷ next ∷ lines) = option_map (λ more. line ∷ more) (befo
 abbrev pub all_say : List (List ℕ) → Option (List Said)
 all_say [] = Some []
 all_say (line ∷ lines) = do
-  first ← words_say (words_of line)
+  first ← words_say (words_in line)
   rest ← all_say lines
   Some (first ∷ rest)
 
 -- the classes that lines declare
 abbrev pub declared_in : List (List ℕ) → List (List ℕ)
-declared_in lines = filter_map (λ line. declared_by (words_of line)) lines
+declared_in lines = filter_map (λ line. declared_by (words_in line)) lines
 
 -- The texts with `object` and then the classes that the lines declare, each at its first declaration, where they aren't
 -- more than there may be.
@@ -122,30 +122,30 @@ with_funcs t [] = Some t
 with_funcs t (text ∷ more) = with_func t text >>= (λ next. with_funcs next more)
 
 -- the statements of lines in turn, and the texts with theirs
-abbrev pub all_numbered : Tables → List Said → Option (List Stmt × Tables)
-all_numbered t [] = Some ([], t)
-all_numbered t (said ∷ more) = do
-  first ← numbered t said
-  rest ← all_numbered first.1 more
+abbrev pub statements_in : Tables → List Said → Option (List Stmt × Tables)
+statements_in t [] = Some ([], t)
+statements_in t (said ∷ more) = do
+  first ← statement_in t said
+  rest ← statements_in first.1 more
   Some (first.0 ∷ rest.0, rest.1)
 
 -- the statements of a block that ends with the last line, and the texts with theirs
 abbrev pub block_read : Tables → List (List ℕ) → Option (List Stmt × Tables)
-block_read t lines = (before_end lines >>= all_say) >>= all_numbered t
+block_read t lines = (before_end lines >>= all_say) >>= statements_in t
 
 -- a script of the block `main`, with the budget that a script has where it says none
-abbrev pub script_read : List Stmt × Tables → Option Parts
+abbrev pub script_read : List Stmt × Tables → Option ScriptParts
 script_read read = Some (script_with 10000 read.0 read.1)
 
--- the script of the lines behind the header
-abbrev pub script_of_lines : List (List ℕ) → Option Parts
+-- the script of the lines after the header
+abbrev pub script_of_lines : List (List ℕ) → Option ScriptParts
 script_of_lines lines = do
-  main ← behind_funcs false lines
+  main ← after_funcs false lines
   classes ← with_classes lines
   tables ← with_funcs classes (funcs_in lines)
   read ← block_read tables main
   script_read read
 
 -- the script that the bytes write
-abbrev pub script_of : List ℕ → Option Parts
+abbrev pub script_of : List ℕ → Option ScriptParts
 script_of bytes = if is_readable bytes then headed (lines_of bytes) >>= script_of_lines else None

@@ -4,7 +4,7 @@ use Rattle.std.specs.Option.{option_map}
 use Rattle.std.specs.List.{slice_split}
 use Rattle.at_script.specs.declared.shape.Shape.{Shape}
 use Rattle.at_script.specs.declared.shape.Shape.TheVariants.{Class, Put, Cut, New, Mro, Set, Del, Get, Super, Special, ClassOf}
-use Rattle.at_script.specs.Pieces.{pieces_left, one_of, two_of}
+use Rattle.at_script.specs.Pieces.{pieces_left, one_part, two_parts}
 use Rattle.at_script.specs.Words.{identifier_of, attribute_name_of, class_word_of}
 use Rattle.at_script.specs.Literals.{◌>>=◌, Written, written, value_of}
 
@@ -18,7 +18,7 @@ pub data Said : Type 0 where
   set : List ℕ → List ℕ → Written → Said
   del : List ℕ → List ℕ → Said
   get : List ℕ → List ℕ → Said
-  behind : List ℕ → List ℕ → List ℕ → Said
+  super_read : List ℕ → List ℕ → List ℕ → Said
   special : List ℕ → List ℕ → Said
   classof : List ℕ → Said
 
@@ -31,14 +31,14 @@ said (Mro c) = mro c.now
 said (Set r x v) = set r.now x.now (written v)
 said (Del r x) = del r.now x.now
 said (Get r x) = get r.now x.now
-said (Super c r x) = behind c.now r.now x.now
+said (Super c r x) = super_read c.now r.now x.now
 said (Special r x) = special r.now x.now
 said (ClassOf r) = classof r.now
 
 -- what stands on the two sides of the one dot, of which the second names an attribute
 abbrev pub attribute_of : List ℕ → Option (List ℕ × List ℕ)
 attribute_of word = do
-  sides ← two_of (slice_split (λ b. b == 46) word)
+  sides ← two_parts (slice_split (λ b. b == 46) word)
   name ← attribute_name_of sides.1
   Some (sides.0, name)
 
@@ -57,7 +57,7 @@ class_says (c ∷ bases) = option_map (λ name. class name bases) (identifier_of
 -- `put C.x V`
 abbrev pub put_says : List (List ℕ) → Option Said
 put_says words = do
-  operands ← two_of words
+  operands ← two_parts words
   place ← attribute_of operands.0
   value ← value_of operands.1
   Some (put place.0 place.1 value)
@@ -65,7 +65,7 @@ put_says words = do
 -- `cut C.x`
 abbrev pub cut_says : List (List ℕ) → Option Said
 cut_says words = do
-  operand ← one_of words
+  operand ← one_part words
   place ← attribute_of operand
   Some (cut place.0 place.1)
 
@@ -86,12 +86,12 @@ new_says (a ∷ c ∷ rest) = do
 
 -- `mro C`
 abbrev pub mro_says : List (List ℕ) → Option Said
-mro_says words = option_map mro (one_of words)
+mro_says words = option_map mro (one_part words)
 
 -- `set R.x V`
 abbrev pub set_says : List (List ℕ) → Option Said
 set_says words = do
-  operands ← two_of words
+  operands ← two_parts words
   place ← owned_of operands.0
   value ← value_of operands.1
   Some (set place.0 place.1 value)
@@ -99,39 +99,39 @@ set_says words = do
 -- `del R.x`
 abbrev pub del_says : List (List ℕ) → Option Said
 del_says words = do
-  operand ← one_of words
+  operand ← one_part words
   place ← owned_of operand
   Some (del place.0 place.1)
 
 -- `get R.x`
 abbrev pub get_says : List (List ℕ) → Option Said
 get_says words = do
-  operand ← one_of words
+  operand ← one_part words
   place ← owned_of operand
   Some (get place.0 place.1)
 
 -- `super C R.x`
 abbrev pub super_says : List (List ℕ) → Option Said
 super_says words = do
-  operands ← two_of words
+  operands ← two_parts words
   place ← owned_of operands.1
-  Some (behind operands.0 place.0 place.1)
+  Some (super_read operands.0 place.0 place.1)
 
 -- `special R.x`
 abbrev pub special_says : List (List ℕ) → Option Said
 special_says words = do
-  operand ← one_of words
+  operand ← one_part words
   place ← owned_of operand
   Some (special place.0 place.1)
 
 -- `classof R`
 abbrev pub classof_says : List (List ℕ) → Option Said
 classof_says words = do
-  operand ← one_of words
+  operand ← one_part words
   owner ← class_word_of operand
   Some (classof owner)
 
--- what the words behind the first say, where that is a word for what is done with an object
+-- what the words after the first say, where that is a word for what is done with an object
 abbrev pub object_says : List ℕ → List (List ℕ) → Option Said
 object_says word rest =
     if bytes_eq word (codes "set")

@@ -14,7 +14,7 @@ use Rattle.at_value.specs.Widths as widths
 use Rattle.at_script.specs.Words.{class_word_of}
 use Rattle.at_name.specs.Texts.{place_of, interned, special_texts}
 use Rattle.at_script.specs.Literals.{◌>>=◌, Written, nothing, integer, quoted, named, static, classm, prop}
-use Rattle.at_script.specs.Shapes.{Said, class, put, cut, new, mro, set, del, get, behind, special, classof}
+use Rattle.at_script.specs.Shapes.{Said, class, put, cut, new, mro, set, del, get, super_read, special, classof}
 
 -- Every script has the class `object` and the special names that attribute access looks up.
 abbrev pub opening : Tables
@@ -115,45 +115,45 @@ given_in t None = Some (None, t)
 given_in t (Some v) = option_map (λ found. (Some found.0, found.1)) (operand_in t v)
 
 -- the statement of a line, and the texts with those of the line
-abbrev pub numbered : Tables → Said → Option (Stmt × Tables)
-numbered t (class c bases) = do
+abbrev pub statement_in : Tables → Said → Option (Stmt × Tables)
+statement_in t (class c bases) = do
   number ← class_at t c
   above ← bases_at t bases
   Some (Class number above, t)
-numbered t (put c x v) = do
+statement_in t (put c x v) = do
   owner ← class_at t c
   name ← name_in t x
   stored ← operand_in name.1 v
   Some (Put owner name.0 stored.0, stored.1)
-numbered t (cut c x) = do
+statement_in t (cut c x) = do
   owner ← class_at t c
   name ← name_in t x
   Some (Cut owner name.0, name.1)
-numbered t (new a c v) = do
+statement_in t (new a c v) = do
   type ← class_at t c
   variable ← variable_in t a
   given ← given_in variable.1 v
   Some (New variable.0 type given.0, given.1)
-numbered t (mro c) = do
+statement_in t (mro c) = do
   type ← class_at t c
   Some (Mro type, t)
-numbered t (set r x v) = do
+statement_in t (set r x v) = do
   place ← attribute_in t r x
   stored ← operand_in place.1 v
   Some (Set place.0.0 place.0.1 stored.0, stored.1)
-numbered t (del r x) = do
+statement_in t (del r x) = do
   place ← attribute_in t r x
   Some (Del place.0.0 place.0.1, place.1)
-numbered t (get r x) = do
+statement_in t (get r x) = do
   place ← attribute_in t r x
   Some (Get place.0.0 place.0.1, place.1)
-numbered t (behind c r x) = do
+statement_in t (super_read c r x) = do
   type ← class_at t c
   place ← attribute_in t r x
   Some (Super type place.0.0 place.0.1, place.1)
-numbered t (special r x) = do
+statement_in t (special r x) = do
   place ← attribute_in t r x
   Some (Special place.0.0 place.0.1, place.1)
-numbered t (classof r) = do
+statement_in t (classof r) = do
   owner ← target_in t r
   Some (ClassOf owner.0, owner.1)

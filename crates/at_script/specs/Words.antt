@@ -71,7 +71,7 @@ abbrev pub is_in_range : ℤ → Bool
 is_in_range z = int_le (negsuc 2147483647) z && int_le z (pos 2147483647)
 
 -- The number in the range of 32 bits whose decimal text is the word: the value of its digits, if it is written so.
-abbrev pub number_of : List ℕ → Option ℤ
-number_of word =
+abbrev pub integer_of : List ℕ → Option ℤ
+integer_of word =
     let z = signed_digits_value 10 word in
     if is_in_range z && bytes_eq (signed_decimal z) word then Some z else None

@@ -3,7 +3,7 @@ ghost use Rattle.std.specs.Prelude.{◌≡◌};
 ghost use Rattle.std.specs.Option.{option_map, option_copied};
 ghost use Rattle.at_script.specs.Literals.{written, quoted_of, function_of, property_of, wrapped_of, value_of};
 
-use crate::number::number_of;
+use crate::number::integer_of;
 use crate::pieces::{Part, Pieces};
 use crate::word::{class_word_of, identifier_of};
 
@@ -30,8 +30,8 @@ pub enum Literal<'a> {
 fn quoted_of(word: &[u8]) -> Option<&str>
     ensures { option_copied result ≡ quoted_of word.now }
 {
-    let (before, text, behind) = Pieces::new(word, Part::Quote).three()?;
-    if before.is_empty() && behind.is_empty() {
+    let (before, text, after) = Pieces::new(word, Part::Quote).three()?;
+    if before.is_empty() && after.is_empty() {
         identifier_of(text)
     } else {
         None
@@ -83,7 +83,7 @@ pub fn value_of(word: &[u8]) -> Option<Literal<'_>>
     if let Some(name) = class_word_of(word) {
         return Some(Literal::Word(name));
     }
-    if let Some(number) = number_of(word) {
+    if let Some(number) = integer_of(word) {
         return Some(Literal::Int(number));
     }
     if let Some(text) = quoted_of(word) {

@@ -3,7 +3,7 @@ ghost use Rattle.std.specs.Prelude.{◌≡◌, ◌∷◌, position};
 ghost use Rattle.std.specs.Option.{option_map, option_copied};
 ghost use Rattle.std.specs.Iterator.{YieldsFirstRef, item_count};
 ghost use Rattle.std.specs.List.{slice_split};
-ghost use Rattle.at_script.specs.Pieces.{is_blank, is_said, separates, keeps, kept, parts_after, pieces_left, one_of, two_of, both_now, three_of, all_now};
+ghost use Rattle.at_script.specs.Pieces.{is_blank, is_said, separates, keeps, kept, parts_after, pieces_left, one_part, two_parts, both_now, three_parts, all_now};
 
 /// What the bytes are parted into.
 #[derive(Clone, Copy)]
@@ -97,7 +97,7 @@ impl<'a> Pieces<'a> {
 
     /// The one part, where there is one.
     pub fn one(mut self) -> Option<&'a [u8]>
-        ensures { option_copied result ≡ one_of (pieces_left self.entry) }
+        ensures { option_copied result ≡ one_part (pieces_left self.entry) }
     {
         let piece = self.next()?;
         match self.next() {
@@ -108,7 +108,7 @@ impl<'a> Pieces<'a> {
 
     /// The two parts, where there are two.
     pub fn two(mut self) -> Option<(&'a [u8], &'a [u8])>
-        ensures { option_map both_now result ≡ two_of (pieces_left self.entry) }
+        ensures { option_map both_now result ≡ two_parts (pieces_left self.entry) }
     {
         let first = self.next()?;
         Some((first, self.one()?))
@@ -116,7 +116,7 @@ impl<'a> Pieces<'a> {
 
     /// The three parts, where there are three.
     pub fn three(mut self) -> Option<(&'a [u8], &'a [u8], &'a [u8])>
-        ensures { option_map all_now result ≡ three_of (pieces_left self.entry) }
+        ensures { option_map all_now result ≡ three_parts (pieces_left self.entry) }
     {
         let first = self.next()?;
         let (second, third) = self.two()?;
@@ -143,7 +143,7 @@ impl<'a> Iterator for Pieces<'a> {
     }
 }
 
-/// The bytes up to the first separator, and those behind it where there is one.
+/// The bytes up to the first separator, and those after it where there is one.
 fn cut(bytes: &[u8], part: Part) -> (&[u8], Option<&[u8]>)
     ensures { slice_split (separates part) bytes.now ≡ result.0.now ∷ parts_after part result.1 }
 {

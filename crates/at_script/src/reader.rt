@@ -6,7 +6,7 @@ ghost use Rattle.at_value.specs.Widths as widths;
 ghost use Rattle.at_script.specs.Pieces.{pieces_left};
 ghost use Rattle.at_script.specs.Shapes.{declared_by};
 ghost use Rattle.at_script.specs.Faults.{IsFaultAt};
-ghost use Rattle.at_script.specs.Script.{is_allowed, is_readable, has_only, is_header, without_last_newline, lines_of, words_of, headed, func_of, behind_funcs, funcs_in, with_funcs, declared_in, script_of_lines, script_of};
+ghost use Rattle.at_script.specs.Script.{is_allowed, is_readable, has_only, is_header, without_last_newline, lines_of, words_in, headed, func_of, after_funcs, funcs_in, with_funcs, declared_in, script_of_lines, script_of};
 ghost use Rattle.at_script.specs.Reading.{with_declared, stated, with_line, main_of};
 ghost use Rattle.at_name.specs.Texts.{all_interned};
 
@@ -60,7 +60,7 @@ fn script_in(alloc: Global, bytes: &[u8]) -> Result<Option<Script>, AllocError>
     if !is_readable(bytes) {
         return Ok(None);
     }
-    match lines_behind_header(bytes) {
+    match lines_after_header(bytes) {
         Some(lines) => script_of_lines(alloc, lines),
         None => Ok(None),
     }
@@ -117,8 +117,8 @@ fn without_last_newline(bytes: &[u8]) -> &[u8]
     }
 }
 
-/// The lines behind the header.
-fn lines_behind_header(bytes: &[u8]) -> Option<Pieces<'_>>
+/// The lines after the header.
+fn lines_after_header(bytes: &[u8]) -> Option<Pieces<'_>>
     ensures { option_map pieces_left result ≡ headed (lines_of bytes.now) }
 {
     let (header, lines) = Pieces::split_first(without_last_newline(bytes), Part::Line);
@@ -137,9 +137,9 @@ fn func_of(line: &[u8]) -> Option<&str>
     }
 }
 
-/// The lines behind the line `main`, before which functions without statements stand.
-fn behind_funcs(mut lines: Pieces<'_>) -> Option<Pieces<'_>>
-    ensures { option_map pieces_left result ≡ behind_funcs false (pieces_left lines.entry) }
+/// The lines after the line `main`, before which functions without statements stand.
+fn after_funcs(mut lines: Pieces<'_>) -> Option<Pieces<'_>>
+    ensures { option_map pieces_left result ≡ after_funcs false (pieces_left lines.entry) }
 {
     while let Some(line) = lines.next() {
         if has_only(b"main", line) {
@@ -152,11 +152,11 @@ fn behind_funcs(mut lines: Pieces<'_>) -> Option<Pieces<'_>>
     None
 }
 
-/// The script of the lines behind the header.
+/// The script of the lines after the header.
 fn script_of_lines(alloc: Global, lines: Pieces<'_>) -> Result<Option<Script>, AllocError>
     ensures { IfOk result (λ script. script ≡ script_of_lines (pieces_left lines.entry)) }
 {
-    let Some(main_lines) = behind_funcs(lines) else {
+    let Some(main_lines) = after_funcs(lines) else {
         return Ok(None);
     };
     let mut tables = Tables::opening(alloc)?;
@@ -186,7 +186,7 @@ fn declare_classes(classes: &mut Texts<CLASSES_MOST>, lines: Pieces<'_>) -> Resu
 
 /// Adds the class that the line declares, where it declares one. It answers `false` where that is one too many.
 fn declare(classes: &mut Texts<CLASSES_MOST>, line: &[u8]) -> Result<bool, AllocError>
-    ensures { IfOk result (λ fits. with_declared classes.old (declared_by (words_of line.now)) ≡ (if fits then Some classes.new else None)) }
+    ensures { IfOk result (λ fits. with_declared classes.old (declared_by (words_in line.now)) ≡ (if fits then Some classes.new else None)) }
 {
     match declared_by(Pieces::new(line, Part::Word)) {
         Some(class) => Ok(classes.intern(class)?.is_some()),

@@ -20,9 +20,9 @@ pub struct Script {
 
 impl Model for Script {
     ghost use Rattle.std.specs.Prelude.{◌≤◌};
-    ghost use Rattle.at_script.specs.Parts.{Parts, script_with};
+    ghost use Rattle.at_script.specs.Parts.{ScriptParts, script_with};
 
-    ghost Value = { Parts };
+    ghost Value = { ScriptParts };
 
     ghost view = { λ s. script_with s.budget s.main.items s.tables };
 

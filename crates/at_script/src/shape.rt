@@ -145,7 +145,7 @@ fn classof_shape(words: Pieces<'_>) -> Option<Shape<'_>>
     Some(Shape::ClassOf(class_word_of(words.one()?)?))
 }
 
-/// What the words behind the first say, where that is a word for what is done with an object.
+/// What the words after the first say, where that is a word for what is done with an object.
 fn object_shape<'a>(word: &[u8], words: Pieces<'a>) -> Option<Shape<'a>>
     ensures { option_map said result ≡ object_says word.now (pieces_left words.entry) }
 {

@@ -60,7 +60,7 @@ pub enum Stmt {
     Turn(Target, Class),
     /// `share R R`: the first object takes the dictionary of the second.
     Share(Target, Target),
-    /// `super C R.x`: reads an attribute behind a class in the order of the object's class.
+    /// `super C R.x`: reads an attribute after a class in the order of the object's class.
     Super(Class, Target, Name),
     /// `special R.x`: looks a special method of an object up.
     Special(Target, Name),
@@ -70,7 +70,7 @@ pub enum Stmt {
     Mro(Class),
     /// `call R.x [V]`: reads an attribute and calls it.
     Call(Target, Name, Option<Operand>),
-    /// `callsuper C R.x [V]`: reads behind a class and calls what is found.
+    /// `callsuper C R.x [V]`: reads after a class and calls what is found.
     CallSuper(Class, Target, Name, Option<Operand>),
     /// `let a V`: binds a variable to a value.
     Let(u16, Operand),

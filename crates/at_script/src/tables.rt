@@ -5,9 +5,9 @@ ghost use Rattle.at_value.specs.Widths as widths;
 ghost use Rattle.at_name.specs.Texts.{place_of};
 ghost use Rattle.at_script.specs.Literals.{written, quoted, named, static, classm, prop};
 ghost use Rattle.at_script.specs.Pieces.{pieces_left};
-ghost use Rattle.at_script.specs.Shapes.{said, class, put, cut, new, mro, set, del, get, behind, special, classof};
+ghost use Rattle.at_script.specs.Shapes.{said, class, put, cut, new, mro, set, del, get, super_read, special, classof};
 ghost use Rattle.at_script.specs.Script.{with_func};
-ghost use Rattle.at_script.specs.Tables.{opening, class_at, bases_at, func_at, variable_in, name_in, target_in, attribute_in, part_at, property_at, operand_in, given_in, numbered};
+ghost use Rattle.at_script.specs.Tables.{opening, class_at, bases_at, func_at, variable_in, name_in, target_in, attribute_in, part_at, property_at, operand_in, given_in, statement_in};
 
 use crate::literal::Literal;
 use crate::pieces::Pieces;
@@ -250,7 +250,7 @@ impl Tables {
     }
 
     fn class(&self, text: &str, bases: Pieces<'_>) -> Option<Stmt>
-        ensures { option_map (λ s. (s, self.now)) result ≡ numbered self.now (class text.now (pieces_left bases.entry)) }
+        ensures { option_map (λ s. (s, self.now)) result ≡ statement_in self.now (class text.now (pieces_left bases.entry)) }
     {
         let class = self.class_at(text.as_bytes())?;
         Some(Stmt::Class(class, self.bases_at(bases)?))
@@ -262,7 +262,7 @@ impl Tables {
         name: &str,
         value: Literal<'_>,
     ) -> Result<Option<Stmt>, AllocError>
-        ensures { IfOk result (λ stmt. option_map (λ s. (s, self.new)) stmt ≡ numbered self.old (put class.now name.now (written value.entry))) }
+        ensures { IfOk result (λ stmt. option_map (λ s. (s, self.new)) stmt ≡ statement_in self.old (put class.now name.now (written value.entry))) }
     {
         let Some(class) = self.class_at(class) else {
             return Ok(None);
@@ -277,7 +277,7 @@ impl Tables {
     }
 
     fn cut(&mut self, class: &[u8], name: &str) -> Result<Option<Stmt>, AllocError>
-        ensures { IfOk result (λ stmt. option_map (λ s. (s, self.new)) stmt ≡ numbered self.old (cut class.now name.now)) }
+        ensures { IfOk result (λ stmt. option_map (λ s. (s, self.new)) stmt ≡ statement_in self.old (cut class.now name.now)) }
     {
         let Some(class) = self.class_at(class) else {
             return Ok(None);
@@ -294,7 +294,7 @@ impl Tables {
         class: &[u8],
         given: Option<Literal<'_>>,
     ) -> Result<Option<Stmt>, AllocError>
-        ensures { IfOk result (λ stmt. option_map (λ s. (s, self.new)) stmt ≡ numbered self.old (new variable.now class.now (option_map written given.entry))) }
+        ensures { IfOk result (λ stmt. option_map (λ s. (s, self.new)) stmt ≡ statement_in self.old (new variable.now class.now (option_map written given.entry))) }
     {
         let Some(class) = self.class_at(class) else {
             return Ok(None);
@@ -309,7 +309,7 @@ impl Tables {
     }
 
     fn mro(&self, class: &[u8]) -> Option<Stmt>
-        ensures { option_map (λ s. (s, self.now)) result ≡ numbered self.now (mro class.now) }
+        ensures { option_map (λ s. (s, self.now)) result ≡ statement_in self.now (mro class.now) }
     {
         Some(Stmt::Mro(self.class_at(class)?))
     }
@@ -320,7 +320,7 @@ impl Tables {
         name: &str,
         value: Literal<'_>,
     ) -> Result<Option<Stmt>, AllocError>
-        ensures { IfOk result (λ stmt. option_map (λ s. (s, self.new)) stmt ≡ numbered self.old (set owner.now name.now (written value.entry))) }
+        ensures { IfOk result (λ stmt. option_map (λ s. (s, self.new)) stmt ≡ statement_in self.old (set owner.now name.now (written value.entry))) }
     {
         let Some((target, name)) = self.attribute(owner, name)? else {
             return Ok(None);
@@ -332,7 +332,7 @@ impl Tables {
     }
 
     fn del(&mut self, owner: &str, name: &str) -> Result<Option<Stmt>, AllocError>
-        ensures { IfOk result (λ stmt. option_map (λ s. (s, self.new)) stmt ≡ numbered self.old (del owner.now name.now)) }
+        ensures { IfOk result (λ stmt. option_map (λ s. (s, self.new)) stmt ≡ statement_in self.old (del owner.now name.now)) }
     {
         let Some((target, name)) = self.attribute(owner, name)? else {
             return Ok(None);
@@ -341,7 +341,7 @@ impl Tables {
     }
 
     fn get(&mut self, owner: &str, name: &str) -> Result<Option<Stmt>, AllocError>
-        ensures { IfOk result (λ stmt. option_map (λ s. (s, self.new)) stmt ≡ numbered self.old (get owner.now name.now)) }
+        ensures { IfOk result (λ stmt. option_map (λ s. (s, self.new)) stmt ≡ statement_in self.old (get owner.now name.now)) }
     {
         let Some((target, name)) = self.attribute(owner, name)? else {
             return Ok(None);
@@ -355,7 +355,7 @@ impl Tables {
         owner: &str,
         name: &str,
     ) -> Result<Option<Stmt>, AllocError>
-        ensures { IfOk result (λ stmt. option_map (λ s. (s, self.new)) stmt ≡ numbered self.old (behind class.now owner.now name.now)) }
+        ensures { IfOk result (λ stmt. option_map (λ s. (s, self.new)) stmt ≡ statement_in self.old (super_read class.now owner.now name.now)) }
     {
         let Some(class) = self.class_at(class) else {
             return Ok(None);
@@ -367,7 +367,7 @@ impl Tables {
     }
 
     fn special(&mut self, owner: &str, name: &str) -> Result<Option<Stmt>, AllocError>
-        ensures { IfOk result (λ stmt. option_map (λ s. (s, self.new)) stmt ≡ numbered self.old (special owner.now name.now)) }
+        ensures { IfOk result (λ stmt. option_map (λ s. (s, self.new)) stmt ≡ statement_in self.old (special owner.now name.now)) }
     {
         let Some((target, name)) = self.attribute(owner, name)? else {
             return Ok(None);
@@ -376,7 +376,7 @@ impl Tables {
     }
 
     fn classof(&mut self, owner: &str) -> Result<Option<Stmt>, AllocError>
-        ensures { IfOk result (λ stmt. option_map (λ s. (s, self.new)) stmt ≡ numbered self.old (classof owner.now)) }
+        ensures { IfOk result (λ stmt. option_map (λ s. (s, self.new)) stmt ≡ statement_in self.old (classof owner.now)) }
     {
         match self.target(owner)? {
             Some(target) => Ok(Some(Stmt::ClassOf(target))),
@@ -387,7 +387,7 @@ impl Tables {
     /// The statement of a line, whose variables and names are numbered from now on. It answers `None` where the line
     /// names what it may not, or one text too many.
     pub fn statement(&mut self, shape: &Shape<'_>) -> Result<Option<Stmt>, AllocError>
-        ensures { IfOk result (λ stmt. option_map (λ s. (s, self.new)) stmt ≡ numbered self.old (said shape.now)) }
+        ensures { IfOk result (λ stmt. option_map (λ s. (s, self.new)) stmt ≡ statement_in self.old (said shape.now)) }
     {
         match shape {
             Shape::Class(class, bases) => Ok(self.class(class, *bases)),

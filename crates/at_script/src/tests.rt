@@ -40,7 +40,7 @@ fn is_script(alloc: Global, bytes: &[u8]) -> Result<bool, Fail> {
     }
 }
 
-/// Whether the line may stand behind `class C` and `new a C`.
+/// Whether the line may stand after `class C` and `new a C`.
 fn accepts(alloc: Global, line: &[u8]) -> Result<bool, Fail> {
     let mut bytes = Vec::from_slice(alloc, b"attrs 1\nmain\nclass C\nnew a C\n")?;
     bytes.extend_from_slice(line)?;
@@ -56,7 +56,7 @@ fn assert_scripts<R: Abort>(rt: &R, alloc: Global, rows: &[(&str, bool)]) -> Res
     Ok(())
 }
 
-/// Whether each line may stand behind `class C` and `new a C` is as its row says.
+/// Whether each line may stand after `class C` and `new a C` is as its row says.
 fn assert_lines<R: Abort>(rt: &R, alloc: Global, rows: &[(&str, bool)]) -> Result<(), Fail> {
     for (line, wanted) in rows {
         assert!(rt; accepts(alloc, line.as_bytes())? == *wanted, "{line:?}");

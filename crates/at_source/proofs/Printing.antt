@@ -4,12 +4,12 @@ use Rattle.std.proofs.lemmas.List.{drop-drop, take-append-le, drop-append-le, ta
 use Rattle.std.proofs.Math.Seq.{take-add}
 use Rattle.std.specs.Io.KnownBytes.{append_known}
 use Rattle.at_source.specs.Page.{Held, Writes, Printed}
-use Rattle.at_source.specs.Whole.{GrewByFront}
+use Rattle.at_source.specs.Whole.{GrewByPrefix}
 use Rattle.at_source.proofs.Told.{append_known-append, append_known-nil}
 
--- Bytes that are sent past an empty page are written, or a front of them is and the page failed.
+-- Bytes that are sent past an empty page are written, or a prefix of them is and the page failed.
 pub sent_past : {T E : Type 0} (o o' : Option (List ℕ)) (page page' : Held) (bytes : List ℕ) (result : Result T E) → page.failed ≡ false → page.bytes ≡ [] → page'.bytes ≡ [] → page'.failed ≡ is_err result
-    → OnOk result (o' ≡ append_known o bytes) → OnErr result (GrewByFront o o' bytes) → Writes o page o' page' bytes
+    → OnOk result (o' ≡ append_known o bytes) → OnErr result (GrewByPrefix o o' bytes) → Writes o page o' page' bytes
 sent_past o o' page page' bytes (Ok x) was none none' is whole part =
     let all : page.bytes ++ bytes ≡ bytes = ap (λ l. l ++ bytes) none in
     record {
@@ -34,7 +34,7 @@ pub stopped_same : {o o' : Option (List ℕ)} {page page' : Held} {bytes : List 
 stopped_same {o} {o'} {page} {page'} {bytes} writes was =
     writes.grew ∙ ap (λ n. append_known o (take n (page.bytes ++ bytes))) (writes.stopped was).0 ∙ append_known-nil o
 
--- what stands after a front, and then more, is what stands after that front of both
+-- what stands after a prefix, and then more, is what stands after that prefix of both
 rest_on : (n : ℕ) (all more : List ℕ) → n ≤ length all → drop n all ++ more ≡ drop n (all ++ more)
 rest_on n all more within = sym (drop-append-le n all more within)
 
@@ -83,6 +83,6 @@ writes_same {a} {b} {p} {q} writes same = subst (Writes a p b q) same writes
 pub then_nothing : {a b c : Option (List ℕ)} {p q r : Held} {xs : List ℕ} → Writes a p b q xs → Writes b q c r [] → Writes a p c r xs
 then_nothing {a} {b} {c} {p} {q} {r} {xs} first second = writes_same (then_writes first second) (append-nil xs)
 
--- what was printed is written as far as a front
-pub printed_front : (start written : Option (List ℕ)) (page : Held) (text : List ℕ) → Printed start written page text → GrewByFront start written text
-printed_front start written page text printed = (printed.sent, printed.within, printed.grew)
+-- what was printed is written as far as a prefix
+pub printed_prefix : (start written : Option (List ℕ)) (page : Held) (text : List ℕ) → Printed start written page text → GrewByPrefix start written text
+printed_prefix start written page text printed = (printed.sent, printed.within, printed.grew)

@@ -19,13 +19,13 @@ pub prepend_known-append : (xs ys : List ℕ) (told : Option (List ℕ)) → pre
 prepend_known-append xs ys None = refl
 prepend_known-append xs ys (Some bytes) = ap Some (sym (append_assoc xs ys bytes))
 
--- a front was written, and then a front of what stands after it
+-- a prefix was written, and then a prefix of what stands after it
 pub sent_more : (a b c : Option (List ℕ)) (n m : ℕ) (bytes : List ℕ) → b ≡ append_known a (take n bytes) → c ≡ append_known b (take m (take (length bytes - n) (drop n bytes))) → c ≡ append_known a (take (n + m) bytes)
 sent_more a b c n m bytes first second =
     second ∙ ap (λ l. append_known b (take m l)) (take_rest bytes n) ∙ ap (λ o. append_known o (take m (drop n bytes))) first ∙ append_known-append a (take n bytes) (take m (drop n bytes))
     ∙ ap (append_known a) (sym (take-add n m bytes))
 
--- a front was read, and then more behind it
+-- a prefix was read, and then more after it
 pub read_more : (a b c : Option (List ℕ)) (n m : ℕ) (before now : List ℕ) → a ≡ prepend_known (take n before) b → take n now ≡ take n before → b ≡ prepend_known (take m (drop n now)) c → a ≡ prepend_known (take (n + m) now) c
 read_more a b c n m before now first same second =
     first ∙ ap (λ l. prepend_known l b) (sym same) ∙ ap (prepend_known (take n now)) second ∙ prepend_known-append (take n now) (take m (drop n now)) c ∙ ap (λ l. prepend_known l c) (sym (take-add n m now))

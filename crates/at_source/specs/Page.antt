@@ -11,7 +11,7 @@ pub record Held : Type 0 where
 abbrev pub empty_page : Held
 empty_page = record { bytes = []; failed = false }
 
--- The bytes were put behind those that the page held. Of both together the sink was sent a front, and the page holds the
+-- The bytes were put after those that the page held. Of both together the sink was sent a prefix, and the page holds the
 -- rest, where no write failed. Once a write failed, the sink is sent nothing more.
 pub record Writes (written : Option (List ℕ)) (page : Held) (written' : Option (List ℕ)) (page' : Held) (bytes : List ℕ) : Type 0 where
   pub sent : ℕ

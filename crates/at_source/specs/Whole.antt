@@ -16,6 +16,6 @@ GaveFirst count (Some left) now = (count ≤ length left) × (now ≡ Some (drop
 abbrev pub GaveFewer : ℕ → Option (List ℕ) → Option (List ℕ) → Type 0
 GaveFewer most before now = (count : ℕ) × (count < most) × GaveFirst count before now
 
--- What was written grew by a front of the text, perhaps by all of it.
-abbrev pub GrewByFront : Option (List ℕ) → Option (List ℕ) → List ℕ → Type 0
-GrewByFront before now text = (count : ℕ) × (count ≤ length text) × (now ≡ append_known before (take count text))
+-- What was written grew by a prefix of the text, perhaps by all of it.
+abbrev pub GrewByPrefix : Option (List ℕ) → Option (List ℕ) → List ℕ → Type 0
+GrewByPrefix before now text = (count : ℕ) × (count ≤ length text) × (now ≡ append_known before (take count text))

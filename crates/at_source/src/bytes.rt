@@ -1,11 +1,11 @@
 //! Bytes that are copied into memory that is there.
 ghost use Rattle.std.specs.Prelude.{◌≡◌, ◌+◌, ◌≤◌, ◌++◌, length, min, take, drop, vec_len, vec_capacity};
 
-/// Copies bytes from the front of `from` to the front of `buf`, at most `most` and as many as both hold, and says how
+/// Copies bytes from the beginning of `from` to the prefix of `buf`, at most `most` and as many as both hold, and says how
 /// many. The rest of `buf` stays.
-pub(crate) fn copy_front(from: &[u8], buf: &mut [u8], most: usize) -> usize
+pub(crate) fn copy_prefix(from: &[u8], buf: &mut [u8], most: usize) -> usize
     ensures count { result ≡ min (min most (length buf.old)) (length from.now) }
-    ensures front { take result buf.new ≡ take result from.now }
+    ensures prefix { take result buf.new ≡ take result from.now }
     ensures rest { drop result buf.new ≡ drop result buf.old }
 {
     let count = most.min(buf.len()).min(from.len());
@@ -13,7 +13,7 @@ pub(crate) fn copy_front(from: &[u8], buf: &mut [u8], most: usize) -> usize
     count
 }
 
-/// Puts the bytes behind those of the list, which has room for them.
+/// Puts the bytes after those of the list, which has room for them.
 pub(crate) fn append(list: &mut Vec<u8>, bytes: &[u8])
     requires { vec_len list.old + length bytes.now ≤ vec_capacity list.old }
     ensures items { list.new.items ≡ list.old.items ++ bytes.now }

@@ -3,7 +3,7 @@ ghost use Rattle.std.specs.Prelude.{◌≡◌, ◌+◌, ◌-◌, ◌<◌, ◌≤
 ghost use Rattle.at_source.specs.Faults.{one_more};
 ghost use Rattle.at_source.specs.Memory.{CallState, SourceState, SinkState, counted, fails_next};
 
-use crate::bytes::{append, copy_front};
+use crate::bytes::{append, copy_prefix};
 use crate::sink::Sink;
 use crate::source::{Failed, Source};
 use std::alloc::{AllocError, Global};
@@ -104,9 +104,9 @@ impl Source for MemSource {
         ensures fails { IsErr result ↔ IsTrue (fails_next self.old.calls) }
         ensures kept { OnErr result (self.new.left ≡ self.old.left) }
 
-        // Else it gives all that it may, at the front of `buf`.
+        // Else it gives all that it may, at the beginning of `buf`.
         ensures count { IfOk result (λ k. k ≡ min (min self.old.most (length buf.old)) (length self.old.left)) }
-        ensures front { IfOk result (λ k. self.old.left ≡ take k buf.new ++ self.new.left) }
+        ensures prefix { IfOk result (λ k. self.old.left ≡ take k buf.new ++ self.new.left) }
         ensures rest { IfOk result (λ k. drop k buf.new ≡ drop k buf.old) }
 
         // The call is counted, and the limit stays.
@@ -116,7 +116,7 @@ impl Source for MemSource {
         ensures positive { 0 < self.old.most }
     {
         self.calls.begin()?;
-        let count = copy_front(&self.bytes[self.at..], buf, self.most);
+        let count = copy_prefix(&self.bytes[self.at..], buf, self.most);
         self.at += count;
         Ok(count)
     }

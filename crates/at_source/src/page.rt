@@ -3,7 +3,7 @@ ghost use Rattle.std.specs.Prelude.{◌≡◌, ◌≤◌, ◌⊎◌, ℕ, List, 
 ghost use Rattle.std.specs.Io.KnownBytes.{append_known};
 ghost use Rattle.at_source.specs.Faults.{Rose};
 ghost use Rattle.at_source.specs.Page.{Held, Writes, Printed, empty_page};
-ghost use Rattle.at_source.specs.Whole.{GrewByFront};
+ghost use Rattle.at_source.specs.Whole.{GrewByPrefix};
 
 use crate::bytes::append;
 use crate::sink::Sink;
@@ -41,7 +41,7 @@ impl Page {
         })
     }
 
-    /// Puts the bytes behind those before, and sends the page where there is no room for them. Once a write failed,
+    /// Puts the bytes after those before, and sends the page where there is no room for them. Once a write failed,
     /// nothing more is sent, and `finish` says so.
     #[inline]
     pub fn write<K: Sink>(&mut self, out: &mut K, bytes: &[u8])
@@ -56,7 +56,7 @@ impl Page {
         }
     }
 
-    /// Puts a byte behind those before, as `write` does.
+    /// Puts a byte after those before, as `write` does.
     #[inline]
     pub fn write_byte<K: Sink>(&mut self, out: &mut K, byte: u8)
         ensures text { Writes (K.written out.old) self.old (K.written out.new) self.new (byte ∷ []) }
@@ -74,12 +74,12 @@ impl Page {
     pub fn finish<K: Sink>(mut self, out: &mut K) -> Result<(), Failed>
         // What the page held back was sent.
         ensures whole { OnOk result ((self.failed ≡ false) × (K.written out.new ≡ append_known (K.written out.old) self.bytes)) }
-        ensures part { OnErr result (GrewByFront (K.written out.old) (K.written out.new) self.bytes) }
+        ensures part { OnErr result (GrewByPrefix (K.written out.old) (K.written out.new) self.bytes) }
         ensures stopped { self.failed ≡ true → IsErr result × (K.written out.new ≡ K.written out.old) }
 
-        // So all the text that was put on the page since it was empty is written, or a front of it.
+        // So all the text that was put on the page since it was empty is written, or a prefix of it.
         ensures text { OnOk result ((start : Option (List ℕ)) (text : List ℕ) → Printed start (K.written out.old) self text → K.written out.new ≡ append_known start text) }
-        ensures front { OnErr result ((start : Option (List ℕ)) (text : List ℕ) → Printed start (K.written out.old) self text → GrewByFront start (K.written out.new) text) }
+        ensures prefix { OnErr result ((start : Option (List ℕ)) (text : List ℕ) → Printed start (K.written out.old) self text → GrewByPrefix start (K.written out.new) text) }
 
         // Failed comes only where a write failed before or the count of faults rose.
         ensures later { K.faults out.old ≤ K.faults out.new }

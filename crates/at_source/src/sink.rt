@@ -13,7 +13,7 @@ pub trait Sink {
     /// How often the sink failed.
     ghost faults: { Self → ℕ };
 
-    /// Takes bytes from the front of the piece, and says how many: at least one of a piece that has one. To take none
+    /// Takes bytes from the beginning of the piece, and says how many: at least one of a piece that has one. To take none
     /// of them is a fault. Where it fails, nothing was written.
     fn write(&mut self, piece: &[u8]) -> Result<usize, Failed>
         ensures most { IfOk result (λ k. k ≤ length piece.now) }

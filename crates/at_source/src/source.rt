@@ -15,7 +15,7 @@ pub trait Source {
     /// How often the source failed.
     ghost faults: { Self → ℕ };
 
-    /// Gives the next bytes at the front of `buf`, and how many they are: at most the length of `buf`, and none of a
+    /// Gives the next bytes at the beginning of `buf`, and how many they are: at most the length of `buf`, and none of a
     /// `buf` that has room only at the end of the input. Where it fails, no byte is lost.
     fn read(&mut self, buf: &mut [u8]) -> Result<usize, Failed>
         ensures most { IfOk result (λ k. k ≤ length buf.old) }

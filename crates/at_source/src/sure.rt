@@ -1,7 +1,7 @@
 //! A source and a sink that never fail.
 ghost use Rattle.std.specs.Prelude.{◌≡◌, ◌≤◌, ◌++◌, ℕ, List, None, Some, length, min, take, drop, vec_len, IfOk, IsOk, Ok};
 
-use crate::bytes::copy_front;
+use crate::bytes::copy_prefix;
 use crate::sink::Sink;
 use crate::source::{Failed, Source};
 use std::marker::Model;
@@ -36,12 +36,12 @@ impl Source for SureSource {
     ghost faults = { λ _. 0 };
 
     fn read(&mut self, buf: &mut [u8]) -> Result<usize, Failed>
-        // It never fails, and gives all that it may, at the front of `buf`.
+        // It never fails, and gives all that it may, at the beginning of `buf`.
         ensures count { result ≡ Ok (min (length buf.old) (length self.old)) }
-        ensures front { IfOk result (λ k. self.old ≡ take k buf.new ++ self.new) }
+        ensures prefix { IfOk result (λ k. self.old ≡ take k buf.new ++ self.new) }
         ensures rest { IfOk result (λ k. drop k buf.new ≡ drop k buf.old) }
     {
-        let count = copy_front(&self.bytes[self.at..], buf, usize::MAX);
+        let count = copy_prefix(&self.bytes[self.at..], buf, usize::MAX);
         self.at += count;
         Ok(count)
     }

@@ -2,7 +2,7 @@
 ghost use Rattle.std.specs.Prelude.{◌≡◌, ◌≢◌, ◌+◌, ◌<◌, ◌≤◌, ℕ, length, take, drop, vec_len, Err, IfOk, OnOk, OnErr};
 ghost use Rattle.std.specs.Io.KnownBytes.{IsAtEnd, append_known, prepend_known};
 ghost use Rattle.at_source.specs.Faults.{Rose};
-ghost use Rattle.at_source.specs.Whole.{GaveAll, GaveFirst, GaveFewer, GrewByFront};
+ghost use Rattle.at_source.specs.Whole.{GaveAll, GaveFirst, GaveFewer, GrewByPrefix};
 
 use crate::sink::Sink;
 use crate::source::{Failed, Source};
@@ -80,7 +80,7 @@ pub fn read_all<S: Source>(
     Err(ReadAllFault::TooLong)
 }
 
-/// One read to behind the first `filled` bytes. Room is made first, so that want of memory loses no byte.
+/// One read to after the first `filled` bytes. Room is made first, so that want of memory loses no byte.
 fn read_more<S: Source>(
     source: &mut S,
     bytes: &mut Vec<u8>,
@@ -90,7 +90,7 @@ fn read_more<S: Source>(
     requires wanted { filled < most }
     requires within { filled ≤ vec_len bytes.old }
     requires bound { vec_len bytes.old ≤ most }
-    ensures front { take filled bytes.new.items ≡ take filled bytes.old.items }
+    ensures prefix { take filled bytes.new.items ≡ take filled bytes.old.items }
     ensures bound { vec_len bytes.new ≤ most }
     ensures fits { IfOk result (λ k. filled + k ≤ vec_len bytes.new) }
     ensures given { IfOk result (λ k. S.left source.old ≡ prepend_known (take k (drop filled bytes.new.items)) (S.left source.new)) }
@@ -111,7 +111,7 @@ fn make_room(bytes: &mut Vec<u8>, filled: usize, most: usize) -> Result<(), Allo
     requires wanted { filled < most }
     requires within { filled ≤ vec_len bytes.old }
     requires bound { vec_len bytes.old ≤ most }
-    ensures front { take filled bytes.new.items ≡ take filled bytes.old.items }
+    ensures prefix { take filled bytes.new.items ≡ take filled bytes.old.items }
     ensures within { filled ≤ vec_len bytes.new }
     ensures bound { vec_len bytes.new ≤ most }
     ensures room { OnOk result (filled < vec_len bytes.new) }
@@ -123,10 +123,10 @@ fn make_room(bytes: &mut Vec<u8>, filled: usize, most: usize) -> Result<(), Allo
     bytes.resize(filled + room, 0)
 }
 
-/// Writes the bytes, all of them. Where the sink fails, a front of them was written.
+/// Writes the bytes, all of them. Where the sink fails, a prefix of them was written.
 pub fn send<K: Sink>(out: &mut K, bytes: &[u8]) -> Result<(), Failed>
     ensures whole { OnOk result (K.written out.new ≡ append_known (K.written out.old) bytes.now) }
-    ensures part { OnErr result (GrewByFront (K.written out.old) (K.written out.new) bytes.now) }
+    ensures part { OnErr result (GrewByPrefix (K.written out.old) (K.written out.new) bytes.now) }
 
     // Failed comes only where the count of faults rose, and the count never falls.
     ensures later { K.faults out.old ≤ K.faults out.new }

@@ -15,7 +15,7 @@ use Rattle.std.proofs.lemmas.List.Elements.{All-contains}
 use Rattle.at_value.specs.declared.value.Value.{Value}
 use Rattle.at_value.specs.Pairs.{AreAbove, IsRising}
 use Rattle.at_value.specs.Widths as widths
-use Rattle.at_script.specs.Parts.{Parts}
+use Rattle.at_script.specs.Parts.{ScriptParts}
 use Rattle.at_text.specs.Values.{text_at}
 use Rattle.at_text.specs.Last.{with_pair, by_bytes}
 use Rattle.at_text.specs.Order.{name_cmp, IsUpto, key_at, AreKeys}
@@ -78,7 +78,7 @@ rising_once (z ∷ xs) rising x y (inr p) (inl q) same =
     absurd (omega (arith, above_in z.0 xs rising.0 x p))
 rising_once (z ∷ xs) rising x y (inr p) (inr q) same = rising_once xs rising.1 x y p q same
 
-module _ (s : Parts) where
+module _ (s : ScriptParts) where
   -- the test of `with_pair`
   abbrev first : ℕ × Value → ℕ × Value → Bool
   first pair next = is_lt (slice_cmp nat_cmp (text_at s.names pair.0) (text_at s.names next.0))

@@ -8,7 +8,7 @@ use Rattle.at_source.proofs.Told.{append_known-nil}
 use Rattle.at_source.proofs.Printing.{then_writes}
 use Rattle.at_text.specs.Prints.{Point, Prints, item_text}
 use Rattle.at_model.specs.declared.last.ObjEnd.{ObjEnd}
-use Rattle.at_script.specs.Parts.{Parts}
+use Rattle.at_script.specs.Parts.{ScriptParts}
 use Rattle.at_text.specs.Last.{object_end_text, object_ends_text}
 use Rattle.at_text.specs.Values.{text_at}
 
@@ -91,7 +91,7 @@ pub then_next : {X : Type 0} {a b c : Point} (f : X → List ℕ) (xs : List X) 
 then_next f xs i before next = prints_same (flat_map-take_next f xs i) (then_prints before next)
 
 -- the texts of the objects so far, and that of the next, where there is one
-pub object_ends_more : (s : Parts) (o : ℕ) (ends : List ObjEnd) (i : ℕ) → object_ends_text s o (take i ends) ++ item_text (object_end_text s (o + i)) (slice_get ends i) ≡ object_ends_text s o (take (i + 1) ends)
+pub object_ends_more : (s : ScriptParts) (o : ℕ) (ends : List ObjEnd) (i : ℕ) → object_ends_text s o (take i ends) ++ item_text (object_end_text s (o + i)) (slice_get ends i) ≡ object_ends_text s o (take (i + 1) ends)
 object_ends_more s o [] zero = refl
 object_ends_more s o [] (suc i) =
     let next : suc i + 1 ≡ suc (i + 1) = omega arith in
@@ -107,12 +107,12 @@ object_ends_more s o (end ∷ ends) (suc i) =
     ∙ append_assoc first (object_ends_text s (o + 1) (take i ends)) (item_text (object_end_text s (o + 1 + i)) (slice_get ends i))
     ∙ ap (λ l. first ++ l) (object_ends_more s (o + 1) ends i) ∙ ap (λ n. object_ends_text s o (take n (end ∷ ends))) (sym next)
 
-pub then_object : {a b c : Point} (s : Parts) (ends : List ObjEnd) (i : ℕ) → Prints a b (object_ends_text s 0 (take i ends)) → Prints b c (item_text (object_end_text s i) (slice_get ends i)) → Prints a c (object_ends_text s 0 (take (i + 1) ends))
+pub then_object : {a b c : Point} (s : ScriptParts) (ends : List ObjEnd) (i : ℕ) → Prints a b (object_ends_text s 0 (take i ends)) → Prints b c (item_text (object_end_text s i) (slice_get ends i)) → Prints a c (object_ends_text s 0 (take (i + 1) ends))
 then_object s ends i before next =
     let number : i ≡ 0 + i = omega arith in
     prints_same (object_ends_more s 0 ends i) (then_prints before (prints_same (ap (λ n. item_text (object_end_text s n) (slice_get ends i)) number) next))
 
-pub all_objects : {a b : Point} (s : Parts) (ends : List ObjEnd) (i : ℕ) → length ends ≤ i → Prints a b (object_ends_text s 0 (take i ends)) → Prints a b (object_ends_text s 0 ends)
+pub all_objects : {a b : Point} (s : ScriptParts) (ends : List ObjEnd) (i : ℕ) → length ends ≤ i → Prints a b (object_ends_text s 0 (take i ends)) → Prints a b (object_ends_text s 0 ends)
 all_objects s ends i over prints = prints_same (ap (object_ends_text s 0) (take_all i ends over)) prints
 
 -- what was printed on an empty page

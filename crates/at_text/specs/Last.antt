@@ -6,11 +6,11 @@ use Rattle.std.specs.Cmp.Lexicographic.{slice_cmp}
 use Rattle.at_value.specs.declared.value.Value.{Value}
 use Rattle.at_model.specs.declared.last.ClassEnd.{ClassEnd}
 use Rattle.at_model.specs.declared.last.ObjEnd.{ObjEnd}
-use Rattle.at_script.specs.Parts.{Parts}
+use Rattle.at_script.specs.Parts.{ScriptParts}
 use Rattle.at_text.specs.Values.{text_at, object_text, class_item, classes_text, value_item}
 
 -- the pairs with one more, before the first whose name comes after its own by bytes
-abbrev pub with_pair : Parts → ℕ × Value → List (ℕ × Value) → List (ℕ × Value)
+abbrev pub with_pair : ScriptParts → ℕ × Value → List (ℕ × Value) → List (ℕ × Value)
 with_pair s pair [] = pair ∷ []
 with_pair s pair (next ∷ rest) =
     if is_lt (slice_cmp nat_cmp (text_at s.names pair.0) (text_at s.names next.0))
@@ -18,27 +18,27 @@ with_pair s pair (next ∷ rest) =
     else next ∷ with_pair s pair rest
 
 -- the pairs, sorted by the bytes of their names
-abbrev pub by_bytes : Parts → List (ℕ × Value) → List (ℕ × Value)
+abbrev pub by_bytes : ScriptParts → List (ℕ × Value) → List (ℕ × Value)
 by_bytes s [] = []
 by_bytes s (pair ∷ pairs) = with_pair s pair (by_bytes s pairs)
 
 -- a name and its value: `.x V`
-abbrev pub pair_text : Parts → ℕ × Value → List ℕ
+abbrev pub pair_text : ScriptParts → ℕ × Value → List ℕ
 pair_text s pair = codes "." ++ text_at s.names pair.0 ++ value_item s pair.1 ++ codes "\n"
 
 -- the own names of a class or an object, by bytes
-abbrev pub own_text : Parts → List (ℕ × Value) → List ℕ
+abbrev pub own_text : ScriptParts → List (ℕ × Value) → List ℕ
 own_text s own = flat_map (pair_text s) (by_bytes s own)
 
 -- a class: its order and its own names
-abbrev pub class_end_text : Parts → ClassEnd → List ℕ
+abbrev pub class_end_text : ScriptParts → ClassEnd → List ℕ
 class_end_text s end = codes "class " ++ text_at s.classes end.class ++ codes " =" ++ classes_text s end.order ++ codes "\n" ++ own_text s end.own
 
 -- an object: its class and its names
-abbrev pub object_end_text : Parts → ℕ → ObjEnd → List ℕ
+abbrev pub object_end_text : ScriptParts → ℕ → ObjEnd → List ℕ
 object_end_text s o end = codes "object " ++ object_text o ++ class_item s end.class ++ codes "\n" ++ own_text s end.own
 
 -- the objects, from this number on
-abbrev pub object_ends_text : Parts → ℕ → List ObjEnd → List ℕ
+abbrev pub object_ends_text : ScriptParts → ℕ → List ObjEnd → List ℕ
 object_ends_text s o [] = []
 object_ends_text s o (end ∷ ends) = object_end_text s o end ++ object_ends_text s (o + 1) ends

@@ -20,11 +20,11 @@ use Rattle.at_line.specs.declared.line.Local as locals
 use Rattle.at_line.specs.declared.line.Local.TheVariants as local
 use Rattle.at_line.specs.declared.line.What as whats
 use Rattle.at_line.specs.declared.line.What.TheVariants as what
-use Rattle.at_script.specs.Parts.{Parts}
+use Rattle.at_script.specs.Parts.{ScriptParts}
 use Rattle.at_text.specs.Values.{text_at, object_text, object_attribute, class_attribute, class_item, classes_text, value_text, value_item}
 
 -- an operation of the data model, in the word of its statement; `cget` reads an attribute of a class
-abbrev pub op_text : Parts → ops.Op → List ℕ
+abbrev pub op_text : ScriptParts → ops.Op → List ℕ
 op_text s (op.NewClass c bases) = codes "class " ++ text_at s.classes c ++ classes_text s bases
 op_text s (op.TypeSet c x v) = codes "put " ++ class_attribute s c x ++ value_item s v
 op_text s (op.TypeDel c x) = codes "cut " ++ class_attribute s c x
@@ -47,7 +47,7 @@ begin_text o None = codes "begin " ++ object_text o
 begin_text o (Some p) = codes "begin " ++ object_text o ++ codes " " ++ object_text p
 
 -- the operation of a line
-abbrev pub line_op_text : Parts → line_ops.LineOp → List ℕ
+abbrev pub line_op_text : ScriptParts → line_ops.LineOp → List ℕ
 line_op_text s (line_op.Of operation) = op_text s operation
 line_op_text s (line_op.Begin o p) = begin_text o p
 line_op_text s line_op.Finish = codes "finish"
@@ -62,12 +62,12 @@ hook_word hook.DescDel = codes "ddel"
 hook_word hook.GetAttr = codes "getattr"
 
 -- an object that was made, and what `__init__` is in its class, where it is there
-abbrev pub made_text : Parts → ℕ → Option values.Value → List ℕ
+abbrev pub made_text : ScriptParts → ℕ → Option values.Value → List ℕ
 made_text s o None = codes "made " ++ object_text o
 made_text s o (Some init) = codes "made " ++ object_text o ++ codes " init " ++ value_text s init
 
 -- a reply of the data model; the values of a hook are callee, receiver, other argument and value
-abbrev pub reply_text : Parts → replies.Reply → List ℕ
+abbrev pub reply_text : ScriptParts → replies.Reply → List ℕ
 reply_text s reply.Done = codes "done"
 reply_text s (reply.Made o init) = made_text s o init
 reply_text s (reply.Value v) = codes "value " ++ value_text s v
@@ -90,7 +90,7 @@ reply_text s reply.NotSubclass = codes "notsubclass"
 reply_text s reply.Full = codes "full"
 
 -- the reply of a line
-abbrev pub line_reply_text : Parts → line_replies.LineReply → List ℕ
+abbrev pub line_reply_text : ScriptParts → line_replies.LineReply → List ℕ
 line_reply_text s (line_reply.Of r) = reply_text s r
 line_reply_text s line_reply.Kept = codes "kept"
 line_reply_text s (line_reply.Suspended n) = codes "suspended " ++ decimal n
@@ -117,7 +117,7 @@ abbrev pub path_item : paths.Path → List ℕ
 path_item way = codes " " ++ path_word way ++ codes " "
 
 -- what isn't an operation
-abbrev pub local_text : Parts → locals.Local → List ℕ
+abbrev pub local_text : ScriptParts → locals.Local → List ℕ
 local_text s local.Depth = codes "depth"
 local_text s local.Budget = codes "budget"
 local_text s local.Kind = codes "kind"
@@ -131,11 +131,11 @@ abbrev pub thread_text : ℕ → List ℕ
 thread_text t = if t == 0 then codes "m" else if t == 33 then codes "f" else codes "t" ++ decimal t
 
 -- place, path, operation and reply, or a local word
-abbrev pub what_text : Parts → whats.What → List ℕ
+abbrev pub what_text : ScriptParts → whats.What → List ℕ
 what_text s (what.Did place way operation r) =
     decimal place.0 ++ path_item way ++ line_op_text s operation ++ codes " = " ++ line_reply_text s r
 what_text s (what.Local l) = codes "- local " ++ local_text s l
 
 -- a line: its thread, its number in the thread, and what it says
-abbrev pub line_text : Parts → Line → List ℕ
+abbrev pub line_text : ScriptParts → Line → List ℕ
 line_text s line = thread_text line.thread ++ codes " " ++ decimal line.number ++ codes " " ++ what_text s line.what ++ codes "\n"

@@ -23,7 +23,7 @@ key_at keys n = unwrap_or (slice_get keys n) (widths.names - 1 - n)
 abbrev pub AreKeys : List (List ℕ) → List ℕ → Type 0
 AreKeys texts keys = (a b : ℕ) → a < widths.names → b < widths.names → key_at keys a ≤ key_at keys b → IsUpto texts a b
 
--- the keys of all names, and the pairs of one map, each behind its key
+-- the keys of all names, and the pairs of one map, each after its key
 pub record Order : Type 0 where
   pub keys : List ℕ
   pub entries : List (ℕ × ℕ × Value)
@@ -32,7 +32,7 @@ pub record Order : Type 0 where
 abbrev pub pair_of : ℕ × ℕ × Value → ℕ × Value
 pair_of entry = (entry.1, entry.2)
 
--- a pair behind its key
+-- a pair after its key
 abbrev pub keyed : List ℕ → ℕ × Value → ℕ × ℕ × Value
 keyed keys pair = (key_at keys pair.0, pair.0, pair.1)
 

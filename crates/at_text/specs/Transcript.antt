@@ -12,7 +12,7 @@ use Rattle.std.specs.Prelude.{ℕ, List, ◌++◌, length, codes, decimal}
 use Rattle.std.specs.List.{flat_map}
 use Rattle.at_line.specs.declared.line.Line.{Line}
 use Rattle.at_model.specs.declared.last.Final.{Final}
-use Rattle.at_script.specs.Parts.{Parts}
+use Rattle.at_script.specs.Parts.{ScriptParts}
 use Rattle.at_text.specs.Lines.{line_text}
 use Rattle.at_text.specs.Last.{class_end_text, object_ends_text}
 
@@ -20,14 +20,14 @@ use Rattle.at_text.specs.Last.{class_end_text, object_ends_text}
 abbrev pub script_text : List ℕ → List ℕ
 script_text script = codes "attrs transcript 1\nscript " ++ decimal (length script) ++ codes "\n" ++ script ++ codes "\n"
 
--- the lines, behind their number
-abbrev pub lines_text : Parts → List Line → List ℕ
+-- the lines, after their number
+abbrev pub lines_text : ScriptParts → List Line → List ℕ
 lines_text s lines = codes "lines " ++ decimal (length lines) ++ codes "\n" ++ flat_map (line_text s) lines
 
 -- the final namespaces
-abbrev pub final_text : Parts → Final → List ℕ
+abbrev pub final_text : ScriptParts → Final → List ℕ
 final_text s last = codes "final\n" ++ flat_map (class_end_text s) last.classes ++ object_ends_text s 0 last.objects ++ codes "end\n"
 
 -- The whole text. The names are those of the script; one that the script doesn't have is written as nothing.
-abbrev pub text : List ℕ → Parts → List Line → Final → List ℕ
+abbrev pub text : List ℕ → ScriptParts → List Line → Final → List ℕ
 text script s lines last = script_text script ++ lines_text s lines ++ final_text s last

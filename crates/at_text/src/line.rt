@@ -41,7 +41,7 @@ fn put_path<K: Sink>(out: &mut K, pen: &mut Pen, path: &Path)
     }
 }
 
-/// Prints a word with a blank behind it, and a number.
+/// Prints a word with a blank after it, and a number.
 fn put_word_and_number<K: Sink>(out: &mut K, pen: &mut Pen, word: &[u8], number: u64)
     ensures { Prints (K.written out.old, K.faults out.old, pen.old) (K.written out.new, K.faults out.new, pen.new) (word.now ++ decimal number) }
 {

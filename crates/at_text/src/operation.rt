@@ -14,7 +14,7 @@ use at_script::Script;
 use at_source::Sink;
 use at_value::{Bases, Class, Name, Obj, Op, Value};
 
-/// Prints a word with a blank behind it, a class and its bases.
+/// Prints a word with a blank after it, a class and its bases.
 fn put_with_bases<K: Sink>(
     out: &mut K,
     pen: &mut Pen,
@@ -30,7 +30,7 @@ fn put_with_bases<K: Sink>(
     put_bases(out, pen, names, bases);
 }
 
-/// Prints a word with a blank behind it, and a class.
+/// Prints a word with a blank after it, and a class.
 fn put_word_and_class<K: Sink>(
     out: &mut K,
     pen: &mut Pen,
@@ -44,7 +44,7 @@ fn put_word_and_class<K: Sink>(
     put_class(out, pen, names, class);
 }
 
-/// Prints a word with a blank behind it, and an attribute of a class.
+/// Prints a word with a blank after it, and an attribute of a class.
 fn put_of_class<K: Sink>(
     out: &mut K,
     pen: &mut Pen,
@@ -59,7 +59,7 @@ fn put_of_class<K: Sink>(
     put_class_attribute(out, pen, names, class, name);
 }
 
-/// Prints a word with `#` behind it, and an attribute of an object.
+/// Prints a word with `#` after it, and an attribute of an object.
 fn put_of_object<K: Sink>(
     out: &mut K,
     pen: &mut Pen,
@@ -115,7 +115,7 @@ fn put_set_class<K: Sink>(out: &mut K, pen: &mut Pen, names: &Script, object: Ob
     put_class_item(out, pen, names, class);
 }
 
-/// Prints a word with a blank behind it, and two objects.
+/// Prints a word with a blank after it, and two objects.
 fn put_two_objects<K: Sink>(out: &mut K, pen: &mut Pen, word: &[u8], first: Obj, second: Obj)
     ensures { Prints (K.written out.old, K.faults out.old, pen.old) (K.written out.new, K.faults out.new, pen.new) (word.now ++ object_text first ++ codes " " ++ object_text second) }
 {
@@ -125,7 +125,7 @@ fn put_two_objects<K: Sink>(out: &mut K, pen: &mut Pen, word: &[u8], first: Obj,
     put_object(out, pen, second);
 }
 
-/// Prints a word with a blank behind it, and an object.
+/// Prints a word with a blank after it, and an object.
 fn put_word_and_object<K: Sink>(out: &mut K, pen: &mut Pen, word: &[u8], object: Obj)
     ensures { Prints (K.written out.old, K.faults out.old, pen.old) (K.written out.new, K.faults out.new, pen.new) (word.now ++ object_text object) }
 {

@@ -17,7 +17,7 @@ use std::marker::Model;
 /// How many names one map has at most.
 const ROOM: usize = Name::COUNT as usize;
 
-/// Keys that sort names as the bytes of their texts do, and room for the names of one map, each behind its key.
+/// Keys that sort names as the bytes of their texts do, and room for the names of one map, each after its key.
 #[derive(Drop)]
 pub struct ByBytes {
     keys: Vec<u16>,
@@ -59,7 +59,7 @@ impl ByBytes {
         self.entries.sort_unstable_by_key(|entry| entry.0);
     }
 
-    /// The pairs that were taken in last, each behind its key.
+    /// The pairs that were taken in last, each after its key.
     pub fn entries(&self) -> &[(u16, Name, Value)]
         ensures { result.now ≡ self.now.entries }
     {
@@ -79,7 +79,7 @@ fn key_of(keys: &[u16], name: Name) -> u16
     }
 }
 
-/// Takes the pairs of a map in, each behind its key.
+/// Takes the pairs of a map in, each after its key.
 fn take_in(own: &Pairs, keys: &[u16], entries: &mut Vec<(u16, Name, Value)>)
     requires { vec_capacity entries.old ≡ widths.names }
     ensures entries { entries.new.items ≡ map (keyed keys.now) own.now }

@@ -2,7 +2,7 @@
 ghost use Rattle.std.specs.Prelude.{◌≡◌, ◌≤◌, ◌⊎◌, ℕ, List, Option, true, IfOk, OnOk, OnErr};
 ghost use Rattle.std.specs.Io.KnownBytes.{append_known};
 ghost use Rattle.at_source.specs.Faults.{Rose};
-ghost use Rattle.at_source.specs.Whole.{GrewByFront};
+ghost use Rattle.at_source.specs.Whole.{GrewByPrefix};
 ghost use Rattle.std.specs.Fmt.{decimal, signed_decimal};
 ghost use Rattle.at_source.specs.Page.{Printed, empty_page};
 ghost use Rattle.at_text.specs.Prints.{Prints};
@@ -69,9 +69,9 @@ impl Pen {
 
     /// Sends what the page holds back, and flushes the sink.
     pub fn finish<K: Sink>(self, out: &mut K) -> Result<(), Failed>
-        // All the text that was put on the page since it was empty is written, or a front of it.
+        // All the text that was put on the page since it was empty is written, or a prefix of it.
         ensures text { OnOk result ((start : Option (List ℕ)) (text : List ℕ) → Printed start (K.written out.old) self text → K.written out.new ≡ append_known start text) }
-        ensures front { OnErr result ((start : Option (List ℕ)) (text : List ℕ) → Printed start (K.written out.old) self text → GrewByFront start (K.written out.new) text) }
+        ensures prefix { OnErr result ((start : Option (List ℕ)) (text : List ℕ) → Printed start (K.written out.old) self text → GrewByPrefix start (K.written out.new) text) }
         ensures later { K.faults out.old ≤ K.faults out.new }
         ensures cause { OnErr result ((self.failed ≡ true) ⊎ Rose (K.faults out.old) (K.faults out.new)) }
     {

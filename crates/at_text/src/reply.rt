@@ -11,7 +11,7 @@ use at_script::Script;
 use at_source::Sink;
 use at_value::{Class, ClassList, Func, HookKind, Obj, Reply, Value};
 
-/// Prints `made #N`, and `init V` behind it where the object's class has an `__init__`.
+/// Prints `made #N`, and `init V` after it where the object's class has an `__init__`.
 fn put_made<K: Sink>(out: &mut K, pen: &mut Pen, names: &Script, object: Obj, init: &Option<Value>)
     ensures { Prints (K.written out.old, K.faults out.old, pen.old) (K.written out.new, K.faults out.new, pen.new) (made_text names.now object init.now) }
 {

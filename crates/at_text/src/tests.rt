@@ -222,21 +222,21 @@ fn faults(text: &str) -> [(usize, u64, usize); 4] {
     ]
 }
 
-/// The sink has taken the front of the text that is so long.
-fn assert_front(rt: &impl Abort, out: &MemSink, length: usize, text: &str) {
+/// The sink has taken the prefix of the text that is so long.
+fn assert_prefix(rt: &impl Abort, out: &MemSink, length: usize, text: &str) {
     assert_eq!(rt; out.bytes().len(), length);
     assert!(rt; text.as_bytes().starts_with(out.bytes()));
 }
 
 #[test]
-fn a_sink_that_fails_has_a_front(rt: HostRuntime) -> Result<(), Fail> {
+fn a_sink_that_fails_has_a_prefix(rt: HostRuntime) -> Result<(), Fail> {
     let alloc = rt.alloc();
     let run = first_path(alloc)?;
     for (room, fails, length) in faults(FIRST_PATH) {
         let mut out = failing_sink(alloc, room, fails)?;
         let printed = print_run(alloc, FIRST_PATH_SCRIPT, &run, &mut out)?;
         assert_eq!(rt; printed, Err(PrintFault::WriteFault));
-        assert_front(&rt, &out, length, FIRST_PATH);
+        assert_prefix(&rt, &out, length, FIRST_PATH);
     }
     Ok(())
 }
@@ -244,20 +244,20 @@ fn a_sink_that_fails_has_a_front(rt: HostRuntime) -> Result<(), Fail> {
 const NAMES_SCRIPT: &[u8] =
     b"attrs 1\nmain\nclass C\nclass D C\nput C.zeta 1\nput C.b 1\nput C.B 1\nput C.ab 1\nput D.a 1\nnew v C\nend\n";
 
-/// What stands behind the first `end` and the empty line after it.
-fn behind_script(text: &[u8]) -> Option<&str> {
-    let (_, behind) = str::from_utf8(text).ok()?.split_once("end\n\n")?;
-    Some(behind)
+/// What stands after the first `end` and the empty line after it.
+fn after_script(text: &[u8]) -> Option<&str> {
+    let (_, after) = str::from_utf8(text).ok()?.split_once("end\n\n")?;
+    Some(after)
 }
 
-/// What is printed behind the bytes of `NAMES_SCRIPT`.
+/// What is printed after the bytes of `NAMES_SCRIPT`.
 fn assert_prints(
     rt: &(impl Abort + Alloc<A = Global>),
     run: &Ran,
     expected: &str,
 ) -> Result<(), Fail> {
     let out = printed(rt, NAMES_SCRIPT, run, 10_000)?;
-    assert_eq!(rt; behind_script(out.bytes()), Some(expected));
+    assert_eq!(rt; after_script(out.bytes()), Some(expected));
     Ok(())
 }
 

@@ -2,7 +2,7 @@
 ghost use Rattle.std.specs.Prelude.{◌≡◌, ◌≤◌, Err, OnOk, slice_get};
 ghost use Rattle.std.specs.Io.KnownBytes.{append_known};
 ghost use Rattle.at_source.specs.Faults.{Rose};
-ghost use Rattle.at_source.specs.Whole.{GrewByFront};
+ghost use Rattle.at_source.specs.Whole.{GrewByPrefix};
 ghost use Rattle.at_text.specs.Lines.{line_text};
 ghost use Rattle.at_text.specs.Prints.{Prints, item_text};
 ghost use Rattle.at_text.specs.Transcript.{script_text, lines_text, text};
@@ -68,7 +68,7 @@ fn put_line_at<K: Sink>(out: &mut K, pen: &mut Pen, names: &Script, lines: &Line
     }
 }
 
-/// Prints the lines behind their number.
+/// Prints the lines after their number.
 fn put_lines<K: Sink>(out: &mut K, pen: &mut Pen, names: &Script, lines: &Lines)
     ensures { Prints (K.written out.old, K.faults out.old, pen.old) (K.written out.new, K.faults out.new, pen.new) (lines_text names.now lines.now) }
 {
@@ -91,9 +91,9 @@ pub fn print<K: Sink>(
     run: &Ran,
     out: &mut K,
 ) -> Result<(), PrintFault>
-    // The transcript was written, or only a front of it.
+    // The transcript was written, or only a prefix of it.
     ensures text { OnOk result (K.written out.new ≡ append_known (K.written out.old) (text script.now names.now run.now.lines run.now.last)) }
-    ensures front { result ≡ Err PrintFault.WriteFault → GrewByFront (K.written out.old) (K.written out.new) (text script.now names.now run.now.lines run.now.last) }
+    ensures prefix { result ≡ Err PrintFault.WriteFault → GrewByPrefix (K.written out.old) (K.written out.new) (text script.now names.now run.now.lines run.now.last) }
 
     // The write fault comes only where the count of faults rose, and the count never falls.
     ensures later { K.faults out.old ≤ K.faults out.new }

@@ -153,7 +153,7 @@ fn put_quoted<K: Sink>(out: &mut K, pen: &mut Pen, names: &Script, text: Name)
     pen.write(out, b"\"");
 }
 
-/// Prints a word and a function behind it.
+/// Prints a word and a function after it.
 fn put_word_and_func<K: Sink>(out: &mut K, pen: &mut Pen, names: &Script, word: &[u8], func: Func)
     ensures { Prints (K.written out.old, K.faults out.old, pen.old) (K.written out.new, K.faults out.new, pen.new) (word.now ++ text_at names.now.funcs func) }
 {

@@ -4,8 +4,8 @@ use Rattle.at_line.specs.declared.line.Line.{Line}
 use Rattle.at_line.specs.declared.line.What as what
 use Rattle.at_line.specs.Lines.{finally_thread}
 use Rattle.at_line.specs.Kept.{whats_of_thread}
-use Rattle.at_script.specs.Parts.{Parts}
-use Rattle.at_thread.specs.Execution.{State, start}
+use Rattle.at_script.specs.Parts.{ScriptParts}
+use Rattle.at_thread.specs.Execution.{ThreadState, start}
 use Rattle.at_thread.specs.Executions.{IsExecution}
 use Rattle.at_thread.specs.Runs.{numbered, whole, Executes, unbound, IsRunOf}
 use Rattle.at_thread.proofs.Numbering.{own, others}
@@ -23,7 +23,7 @@ alone_whole says count none =
 no_block : {B : Type 0} (blocks : List B) (i : ℕ) (block : B) → blocks ≡ [] → slice_get blocks i ≡ Some block → ⊥
 no_block blocks i block none there = let e : slice_get [] i ≡ Some block = ap (λ bs. slice_get bs i) (sym none) ∙ there in cc
 
-pub alone_run : (s : Parts) (says : List what.What) (end : State) → s.threads ≡ [] → s.finally ≡ None → IsExecution s (start s.main (unbound s)) says end → IsRunOf s (numbered 0 1 says)
+pub alone_run : (s : ScriptParts) (says : List what.What) (end : ThreadState) → s.threads ≡ [] → s.finally ≡ None → IsExecution s (start s.main (unbound s)) says end → IsRunOf s (numbered 0 1 says)
 alone_run s says end threads finally runs = record {
   order = alone_whole says (length s.threads) (ap length threads);
   variables = end.variables;
@@ -43,7 +43,7 @@ numbered_length thread from [] = refl
 numbered_length thread from (w ∷ says) = ap suc (numbered_length thread (suc from) says)
 
 -- the lines of a run of such a script are those of `main`
-pub alone_lines : (s : Parts) (lines : List Line) → s.threads ≡ [] → s.finally ≡ None → IsRunOf s lines → lines ≡ numbered 0 1 (whats_of_thread 0 lines)
+pub alone_lines : (s : ScriptParts) (lines : List Line) → s.threads ≡ [] → s.finally ≡ None → IsRunOf s lines → lines ≡ numbered 0 1 (whats_of_thread 0 lines)
 alone_lines s lines threads finally run =
     let says : ℕ → List what.What = λ thread. whats_of_thread thread lines in
     run.order

@@ -7,8 +7,8 @@ use Rattle.at_line.specs.declared.line.Local as local
 use Rattle.at_line.specs.declared.line.Local.TheVariants as locals
 use Rattle.at_line.specs.declared.line.What as what
 use Rattle.at_line.specs.declared.line.What.TheVariants as whats
-use Rattle.at_script.specs.Parts.{Parts}
-use Rattle.at_thread.specs.Execution.{State, Next, ended, silent, says, asks, dropped, taken, next_of}
+use Rattle.at_script.specs.Parts.{ScriptParts}
+use Rattle.at_thread.specs.Execution.{ThreadState, Transition, ended, silent, says, asks, dropped, taken, next_of}
 use Rattle.at_thread.specs.Executions.{reply_taken, stands_for, TakesReply, Fits, Leads, IsExecution}
 use Rattle.at_thread.specs.Laws.{Told, replied, declined, told_by, all_told}
 
@@ -27,16 +27,16 @@ same_rest (whats.Local (locals.Worn sequence)) xs ys e = cc
 same_rest (whats.Local l) xs ys e = e
 
 -- what two executions that are told the same agree on
-abbrev pub Alike : List what.What → List what.What → State → State → Type 0
+abbrev pub Alike : List what.What → List what.What → ThreadState → ThreadState → Type 0
 Alike first second t u = (first ≡ second) × (t ≡ u)
 
-module _ (t u : State) (on off : State → List what.What → Type 0) (same : (s : State) (first second : List what.What) → on s first → off s second → all_told first ≡ all_told second → Alike first second t u) where
-  with_head : (w : what.What) (s : State) (first second : List what.What) → on s first → off s second → all_told (w ∷ first) ≡ all_told (w ∷ second) → Alike (w ∷ first) (w ∷ second) t u
+module _ (t u : ThreadState) (on off : ThreadState → List what.What → Type 0) (same : (s : ThreadState) (first second : List what.What) → on s first → off s second → all_told first ≡ all_told second → Alike first second t u) where
+  with_head : (w : what.What) (s : ThreadState) (first second : List what.What) → on s first → off s second → all_told (w ∷ first) ≡ all_told (w ∷ second) → Alike (w ∷ first) (w ∷ second) t u
   with_head w s first second f g e =
       let k = same s first second f g (same_rest w (all_told first) (all_told second) e) in
       (ap (λ rest. w ∷ rest) k.0, k.1)
 
-  both : (next : Next) (first second : List what.What) → Fits on next first → Fits off next second → all_told first ≡ all_told second → Alike first second t u
+  both : (next : Transition) (first second : List what.What) → Fits on next first → Fits off next second → all_told first ≡ all_told second → Alike first second t u
   both ended first second f g e = absurd f
   both (silent s) first second f g e = same s first second f g e
   both (says l s) [] second f g e = absurd f
@@ -70,11 +70,11 @@ module _ (t u : State) (on off : State → List what.What → Type 0) (same : (s
       subst (λ (z : local.Local). all_told (whats.Local l ∷ first) ≡ all_told (whats.Local z ∷ second) → Alike (whats.Local l ∷ first) (whats.Local z ∷ second) t u) lm (with_head (whats.Local l) (dropped s) first second f.1 g.1) e
 
 -- nothing leads on from a state that has ended
-stays : (p : Parts) (n : ℕ) (s : State) (lines : List what.What) (u : State) → next_of p s ≡ ended → Leads p n s lines u → (lines ≡ []) × (s ≡ u)
+stays : (p : ScriptParts) (n : ℕ) (s : ThreadState) (lines : List what.What) (u : ThreadState) → next_of p s ≡ ended → Leads p n s lines u → (lines ≡ []) × (s ≡ u)
 stays p zero s lines u e l = l
-stays p (suc n) s lines u e l = absurd (subst (λ (next : Next). Fits (λ x rest. Leads p n x rest u) next lines) e l)
+stays p (suc n) s lines u e l = absurd (subst (λ (next : Transition). Fits (λ x rest. Leads p n x rest u) next lines) e l)
 
-same_leads : (p : Parts) (n m : ℕ) (s : State) (first second : List what.What) (t u : State) → next_of p t ≡ ended → next_of p u ≡ ended → Leads p n s first t → Leads p m s second u → all_told first ≡ all_told second → Alike first second t u
+same_leads : (p : ScriptParts) (n m : ℕ) (s : ThreadState) (first second : List what.What) (t u : ThreadState) → next_of p t ≡ ended → next_of p u ≡ ended → Leads p n s first t → Leads p m s second u → all_told first ≡ all_told second → Alike first second t u
 same_leads p zero m s first second t u et eu l k e =
     let z = stays p m s second u (ap (next_of p) l.1 ∙ et) k in
     (l.0 ∙ sym z.0, sym l.1 ∙ z.1)
@@ -84,5 +84,5 @@ same_leads p (suc n) zero s first second t u et eu l k e =
 same_leads p (suc n) (suc m) s first second t u et eu l k e =
     both t u (λ x rest. Leads p n x rest t) (λ x rest. Leads p m x rest u) (λ x a b f g h. same_leads p n m x a b t u et eu f g h) (next_of p s) first second l k e
 
-pub determined : (p : Parts) (s t u : State) (first second : List what.What) → IsExecution p s first t → IsExecution p s second u → all_told first ≡ all_told second → (first ≡ second) × (t ≡ u)
+pub determined : (p : ScriptParts) (s t u : ThreadState) (first second : List what.What) → IsExecution p s first t → IsExecution p s second u → all_told first ≡ all_told second → (first ≡ second) × (t ≡ u)
 determined p s t u first second f g e = same_leads p f.1 g.1 s first second t u f.0 g.0 f.2 g.2 e

@@ -12,11 +12,11 @@ use Rattle.at_script.specs.declared.stmt.Operand as operand
 use Rattle.at_script.specs.declared.stmt.Operand.TheVariants as operands
 use Rattle.at_script.specs.declared.stmt.Target as target
 use Rattle.at_script.specs.declared.stmt.Target.TheVariants as targets
-use Rattle.at_thread.specs.declared.demand.Gives as given
-use Rattle.at_thread.specs.declared.demand.Asked.{Asked}
-use Rattle.at_thread.specs.declared.demand.Call.{Call}
-use Rattle.at_script.specs.Parts.{Parts}
-use Rattle.at_thread.specs.Execution.{Frame, State, Next, silent, says, and_then, bound_to, operand_value, given_value, target_value, as_object, target_object, read_of, target_read, other_object, asked_by, returned, let_next, return_next, finish_next, ask_next, statement_next, begun_in, frame_next, frames_next, called, call_next, pending_next, next_of}
+use Rattle.at_thread.specs.declared.next.OnReturn as given
+use Rattle.at_thread.specs.declared.next.Request.{Request}
+use Rattle.at_thread.specs.declared.next.Call.{Call}
+use Rattle.at_script.specs.Parts.{ScriptParts}
+use Rattle.at_thread.specs.Execution.{Frame, ThreadState, Transition, silent, says, and_then, bound_to, operand_value, given_value, target_value, as_object, target_object, read_of, target_read, other_object, asked_by, returned, let_next, return_next, finish_next, ask_next, statement_next, begun_in, frame_next, frames_next, called, call_next, pending_next, next_of}
 
 -- a local line that a statement brings about
 abbrev pub IsOwn : local.Local → Type 0
@@ -26,7 +26,7 @@ abbrev pub ErrsOwn : {A : Type 0} → Result A local.Local → Type 0
 ErrsOwn (Ok a) = Unit {0}
 ErrsOwn (Err l) = IsOwn l
 
-abbrev pub SaysOwn : Next → Type 0
+abbrev pub SaysOwn : Transition → Type 0
 SaysOwn (says l s) = IsOwn l
 SaysOwn next = Unit {0}
 
@@ -38,7 +38,7 @@ bound_own : (a : ℕ) (v : Option value.Value) → ErrsOwn (bound_to a v)
 bound_own a None = tt
 bound_own a (Some v) = tt
 
-operand_own : (s : State) (f : Frame) (v : operand.Operand) → ErrsOwn (operand_value s f v)
+operand_own : (s : ThreadState) (f : Frame) (v : operand.Operand) → ErrsOwn (operand_value s f v)
 operand_own s f (operands.Value v) = tt
 operand_own s f (operands.Var a) = bound_own a (slice_index_or s.variables a None)
 operand_own s f operands.SelfArg = tt
@@ -46,11 +46,11 @@ operand_own s f operands.Arg = tt
 operand_own s f operands.Other = tt
 operand_own s f operands.It = tt
 
-given_own : (s : State) (f : Frame) (v : Option operand.Operand) → ErrsOwn (given_value s f v)
+given_own : (s : ThreadState) (f : Frame) (v : Option operand.Operand) → ErrsOwn (given_value s f v)
 given_own s f None = tt
 given_own s f (Some v) = operand_own s f v
 
-target_own : (s : State) (f : Frame) (r : target.Target) → ErrsOwn (target_value s f r)
+target_own : (s : ThreadState) (f : Frame) (r : target.Target) → ErrsOwn (target_value s f r)
 target_own s f (targets.Class c) = tt
 target_own s f (targets.Var a) = bound_own a (slice_index_or s.variables a None)
 target_own s f targets.SelfArg = tt
@@ -62,7 +62,7 @@ as_object_own : (v : value.Value) → ErrsOwn (as_object v)
 as_object_own (values.Obj o) = tt
 as_object_own v = tt
 
-object_own : (s : State) (f : Frame) (r : target.Target) → ErrsOwn (target_object s f r)
+object_own : (s : ThreadState) (f : Frame) (r : target.Target) → ErrsOwn (target_object s f r)
 object_own s f r = then_own (target_value s f r) as_object (target_own s f r) as_object_own
 
 read_own : (x : ℕ) (v : value.Value) → ErrsOwn (read_of v x)
@@ -70,14 +70,14 @@ read_own x (values.Obj o) = tt
 read_own x (values.Class c) = tt
 read_own x v = tt
 
-target_read_own : (s : State) (f : Frame) (r : target.Target) (x : ℕ) → ErrsOwn (target_read s f r x)
+target_read_own : (s : ThreadState) (f : Frame) (r : target.Target) (x : ℕ) → ErrsOwn (target_read s f r x)
 target_read_own s f r x = then_own (target_value s f r) (λ v. read_of v x) (target_own s f r) (read_own x)
 
-other_own : (s : State) (f : Frame) (o : ℕ) (r : Option target.Target) → ErrsOwn (other_object s f o r)
+other_own : (s : ThreadState) (f : Frame) (o : ℕ) (r : Option target.Target) → ErrsOwn (other_object s f o r)
 other_own s f o None = tt
 other_own s f o (Some r) = then_own (target_object s f r) _ (object_own s f r) (λ p. tt)
 
-asked_own : (s : State) (f : Frame) (t : stmt.Stmt) → ErrsOwn (asked_by s f t)
+asked_own : (s : ThreadState) (f : Frame) (t : stmt.Stmt) → ErrsOwn (asked_by s f t)
 asked_own s f (stmts.Put c x v) = then_own (operand_value s f v) _ (operand_own s f v) (λ w. tt)
 asked_own s f (stmts.New a c v) = then_own (given_value s f v) _ (given_own s f v) (λ w. tt)
 asked_own s f (stmts.Set r x v) = then_own (target_object s f r) _ (object_own s f r) (λ o. then_own (operand_value s f v) _ (operand_own s f v) (λ w. tt))
@@ -93,30 +93,30 @@ asked_own s f (stmts.CallSuper c r x v) = then_own (target_object s f r) _ (obje
 asked_own s f (stmts.Begin r q) = then_own (target_object s f r) _ (object_own s f r) (λ o. then_own (other_object s f o q) _ (other_own s f o q) (λ p. tt))
 asked_own s f t = tt
 
-let_says : (s : State) (a : ℕ) (r : Result value.Value local.Local) → ErrsOwn r → SaysOwn (let_next s a r)
+let_says : (s : ThreadState) (a : ℕ) (r : Result value.Value local.Local) → ErrsOwn r → SaysOwn (let_next s a r)
 let_says s a (Ok v) h = tt
 let_says s a (Err l) h = h
 
-return_says : (g : given.Gives) (s : State) (r : Result value.Value local.Local) → ErrsOwn r → SaysOwn (return_next g s r)
+return_says : (g : given.OnReturn) (s : ThreadState) (r : Result value.Value local.Local) → ErrsOwn r → SaysOwn (return_next g s r)
 return_says g s (Ok v) h = tt
 return_says g s (Err l) h = h
 
-finish_says : (s : State) (b : Bool) → SaysOwn (finish_next s b)
+finish_says : (s : ThreadState) (b : Bool) → SaysOwn (finish_next s b)
 finish_says s true = tt
 finish_says s false = tt
 
-ask_says : (s : State) (r : Result Asked local.Local) → ErrsOwn r → SaysOwn (ask_next s r)
+ask_says : (s : ThreadState) (r : Result Request local.Local) → ErrsOwn r → SaysOwn (ask_next s r)
 ask_says s (Ok a) h = tt
 ask_says s (Err l) h = h
 
-statement_says : (s : State) (f : Frame) (below : List Frame) (t : stmt.Stmt) → SaysOwn (statement_next s f below t)
+statement_says : (s : ThreadState) (f : Frame) (below : List Frame) (t : stmt.Stmt) → SaysOwn (statement_next s f below t)
 statement_says s f below (stmts.Let a v) = let_says s a (operand_value s f v) (operand_own s f v)
 statement_says s f below (stmts.Return v) = return_says f.gives (record s { frames = below }) (operand_value s f v) (operand_own s f v)
 statement_says s f below stmts.Finish = finish_says s f.opened
 statement_says s f below stmts.Checkpoint = tt
 statement_says s f below t = ask_says s (asked_by s f t) (asked_own s f t)
 
-frame_says : (p : Parts) (s : State) (f : Frame) (below : List Frame) (rest : List stmt.Stmt) → SaysOwn (frame_next p s f below rest)
+frame_says : (p : ScriptParts) (s : ThreadState) (f : Frame) (below : List Frame) (rest : List stmt.Stmt) → SaysOwn (frame_next p s f below rest)
 frame_says p s f below [] = tt
 frame_says p s f below (t ∷ rest) = tests (nat_le p.budget s.begun)
   where
@@ -124,11 +124,11 @@ frame_says p s f below (t ∷ rest) = tests (nat_le p.budget s.begun)
     tests true = tt
     tests false = statement_says (begun_in s f below rest) (record f { rest = rest }) below t
 
-frames_says : (p : Parts) (s : State) (fs : List Frame) → SaysOwn (frames_next p s fs)
+frames_says : (p : ScriptParts) (s : ThreadState) (fs : List Frame) → SaysOwn (frames_next p s fs)
 frames_says p s [] = tt
 frames_says p s (f ∷ below) = frame_says p s f below f.rest
 
-call_says : (p : Parts) (s : State) (c : Call) (callee : Option ℕ) → SaysOwn (call_next p s c callee)
+call_says : (p : ScriptParts) (s : ThreadState) (c : Call) (callee : Option ℕ) → SaysOwn (call_next p s c callee)
 call_says p s c None = tt
 call_says p s c (Some f) = tests (nat_le (length s.frames) 16)
   where
@@ -136,10 +136,10 @@ call_says p s c (Some f) = tests (nat_le (length s.frames) 16)
     tests true = tt
     tests false = tt
 
-pending_says : (p : Parts) (s : State) (c : Option Call) → SaysOwn (pending_next p s c)
+pending_says : (p : ScriptParts) (s : ThreadState) (c : Option Call) → SaysOwn (pending_next p s c)
 pending_says p s None = frames_says p s s.frames
 pending_says p s (Some c) = call_says p (record s { call = None }) c c.callee
 
 -- what a thread says by itself names no limit
-pub next_says : (p : Parts) (s t : State) (l : local.Local) → next_of p s ≡ says l t → NamesNoLimit (whats.Local l)
+pub next_says : (p : ScriptParts) (s t : ThreadState) (l : local.Local) → next_of p s ≡ says l t → NamesNoLimit (whats.Local l)
 next_says p s t l e = subst SaysOwn e (pending_says p s s.call)

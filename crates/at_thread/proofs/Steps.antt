@@ -9,14 +9,14 @@ use Rattle.at_line.specs.declared.line.Local as local
 use Rattle.at_line.specs.declared.line.Local.TheVariants as locals
 use Rattle.at_script.specs.declared.stmt.Stmt as stmt
 use Rattle.at_script.specs.declared.stmt.Stmt.TheVariants as stmts
-use Rattle.at_thread.specs.declared.demand.Use as used
-use Rattle.at_thread.specs.declared.demand.Use.TheVariants as uses
-use Rattle.at_thread.specs.declared.demand.Gives as given
-use Rattle.at_thread.specs.declared.demand.Gives.TheVariants as gives
-use Rattle.at_thread.specs.declared.demand.Asked.{Asked}
-use Rattle.at_thread.specs.declared.demand.Call.{Call}
-use Rattle.at_script.specs.Parts.{Parts}
-use Rattle.at_thread.specs.Execution.{Frame, State, Next, ended, silent, says, asks, operand_value, asked_by, returned, taken, dropped, with_opened, let_next, return_next, finish_next, ask_next, statement_next, begun_in, frame_next, frames_next, called, call_next, pending_next, next_of}
+use Rattle.at_thread.specs.declared.next.ReplyUse as used
+use Rattle.at_thread.specs.declared.next.ReplyUse.TheVariants as uses
+use Rattle.at_thread.specs.declared.next.OnReturn as given
+use Rattle.at_thread.specs.declared.next.OnReturn.TheVariants as gives
+use Rattle.at_thread.specs.declared.next.Request.{Request}
+use Rattle.at_thread.specs.declared.next.Call.{Call}
+use Rattle.at_script.specs.Parts.{ScriptParts}
+use Rattle.at_thread.specs.Execution.{Frame, ThreadState, Transition, ended, silent, says, asks, operand_value, asked_by, returned, taken, dropped, with_opened, let_next, return_next, finish_next, ask_next, statement_next, begun_in, frame_next, frames_next, called, call_next, pending_next, next_of}
 
 -- a call that is to begin takes at most two steps more, and at most one line
 abbrev pub pending : Option Call → ℕ
@@ -29,41 +29,41 @@ spare [] = 1
 spare (f ∷ fs) = 0
 
 -- how many steps a thread takes at most
-abbrev pub size : Parts → State → ℕ
+abbrev pub size : ScriptParts → ThreadState → ℕ
 size p s = 3 * (p.budget - s.begun) + length s.frames + 2 * pending s.call
 
 -- so many lines led here
-pub record Few (p : Parts) (lines : ℕ) (s : State) : Type 0 where
+pub record Few (p : ScriptParts) (lines : ℕ) (s : ThreadState) : Type 0 where
   pub few : lines + pending s.call ≤ 2 * s.begun + spare s.frames
   pub within : s.begun ≤ p.budget
 
 -- the state is smaller than n, and so many lines led here
-pub record Onward (p : Parts) (n lines : ℕ) (t : State) : Type 0 where
+pub record Onward (p : ScriptParts) (n lines : ℕ) (t : ThreadState) : Type 0 where
   pub smaller : size p t < n
   pub few : Few p lines t
 
 -- whatever comes of what is demanded
-abbrev pub AllOnward : Parts → ℕ → ℕ → Next → Type 0
+abbrev pub AllOnward : ScriptParts → ℕ → ℕ → Transition → Type 0
 AllOnward p n lines ended = Unit {0}
 AllOnward p n lines (silent t) = Onward p n lines t
 AllOnward p n lines (says l t) = Onward p n (suc lines) t
 AllOnward p n lines (asks o u t) = ((r : reply.Reply) → Onward p n (suc lines) (taken u r t)) × Onward p n (suc lines) (dropped t)
 
 -- a state that has room for a reply, or for a line
-pub record Roomy (p : Parts) (n lines : ℕ) (f : Frame) (below : List Frame) (t : State) : Type 0 where
+pub record Roomy (p : ScriptParts) (n lines : ℕ) (f : Frame) (below : List Frame) (t : ThreadState) : Type 0 where
   pub above : t.frames ≡ f ∷ below
   pub free : t.call ≡ None
   pub smaller : size p t + 2 < n
   pub few : suc (suc lines) ≤ 2 * t.begun
   pub within : t.begun ≤ p.budget
 
-returned_onward : (p : Parts) (n lines : ℕ) (g : given.Gives) (v : value.Value) (t : State) → Onward p n lines t → Onward p n lines (returned g v t)
+returned_onward : (p : ScriptParts) (n lines : ℕ) (g : given.OnReturn) (v : value.Value) (t : ThreadState) → Onward p n lines t → Onward p n lines (returned g v t)
 returned_onward p n lines gives.Result v t h = record { smaller = h.smaller; few = record { few = h.few.few; within = h.few.within } }
 returned_onward p n lines gives.Nothing v t h = record { smaller = h.smaller; few = record { few = h.few.few; within = h.few.within } }
 returned_onward p n lines (gives.Object o) v t h = record { smaller = h.smaller; few = record { few = h.few.few; within = h.few.within } }
 
 -- a state with room goes on, with one line more or none, whether a call is to begin or not
-roomy_onward : (p : Parts) (n lines now_lines : ℕ) (f g : Frame) (below : List Frame) (t u : State) → now_lines ≤ suc lines → Roomy p n lines f below t → u.frames ≡ g ∷ below → u.begun ≡ t.begun → Onward p n now_lines u
+roomy_onward : (p : ScriptParts) (n lines now_lines : ℕ) (f g : Frame) (below : List Frame) (t u : ThreadState) → now_lines ≤ suc lines → Roomy p n lines f below t → u.frames ≡ g ∷ below → u.begun ≡ t.begun → Onward p n now_lines u
 roomy_onward p n lines now_lines f g below t u most h frames begun =
     let same : length u.frames ≡ length t.frames = ap length frames ∙ sym (ap length h.above) in
     let none_spare : spare u.frames ≡ 0 = ap spare frames in
@@ -78,7 +78,7 @@ roomy_onward p n lines now_lines f g below t u most h frames begun =
     at_most None = omega arith
     at_most (Some c) = omega arith
 
-taken_onward : (p : Parts) (n lines : ℕ) (f : Frame) (below : List Frame) (t : State) → Roomy p n lines f below t → (u : used.Use) (r : reply.Reply) → Onward p n (suc lines) (taken u r t)
+taken_onward : (p : ScriptParts) (n lines : ℕ) (f : Frame) (below : List Frame) (t : ThreadState) → Roomy p n lines f below t → (u : used.ReplyUse) (r : reply.Reply) → Onward p n (suc lines) (taken u r t)
 taken_onward p n lines f below t h uses.Read (replies.Hook k c r o v) = roomy_onward p n lines (suc lines) f f below t _ (omega arith) h h.above refl
 taken_onward p n lines f below t h uses.Learn (replies.Value v) = roomy_onward p n lines (suc lines) f f below t _ (omega arith) h h.above refl
 taken_onward p n lines f below t h uses.Write (replies.Hook k c r o v) = roomy_onward p n lines (suc lines) f f below t _ (omega arith) h h.above refl
@@ -92,12 +92,12 @@ taken_onward p n lines f below t h u r = roomy_onward p n lines (suc lines) f f 
 
 -- What comes of a statement, in a state with room, is onward
 
-let_onward : (p : Parts) (n lines : ℕ) (f : Frame) (below : List Frame) (t : State) (a : ℕ) (r : Result value.Value local.Local) → Roomy p n lines f below t → AllOnward p n lines (let_next t a r)
+let_onward : (p : ScriptParts) (n lines : ℕ) (f : Frame) (below : List Frame) (t : ThreadState) (a : ℕ) (r : Result value.Value local.Local) → Roomy p n lines f below t → AllOnward p n lines (let_next t a r)
 let_onward p n lines f below t a (Ok v) h = roomy_onward p n lines lines f f below t _ (omega arith) h h.above refl
 let_onward p n lines f below t a (Err l) h = roomy_onward p n lines (suc lines) f f below t _ (omega arith) h h.above refl
 
 -- the frame has ended
-ended_onward : (p : Parts) (n lines now_lines : ℕ) (f : Frame) (below : List Frame) (t : State) → now_lines ≤ suc lines → Roomy p n lines f below t → Onward p n now_lines (record t { frames = below })
+ended_onward : (p : ScriptParts) (n lines now_lines : ℕ) (f : Frame) (below : List Frame) (t : ThreadState) → now_lines ≤ suc lines → Roomy p n lines f below t → Onward p n now_lines (record t { frames = below })
 ended_onward p n lines now_lines f below t most h =
     let same : length t.frames ≡ suc (length below) = ap length h.above in
     let small : size p t + 2 < n = h.smaller in
@@ -106,15 +106,15 @@ ended_onward p n lines now_lines f below t most h =
     let now : pending t.call ≡ 0 = ap pending h.free in
     record { smaller = omega arith; few = record { few = omega arith; within = omega arith } }
 
-return_onward : (p : Parts) (n lines : ℕ) (f : Frame) (below : List Frame) (t : State) (g : given.Gives) (r : Result value.Value local.Local) → Roomy p n lines f below t → AllOnward p n lines (return_next g (record t { frames = below }) r)
+return_onward : (p : ScriptParts) (n lines : ℕ) (f : Frame) (below : List Frame) (t : ThreadState) (g : given.OnReturn) (r : Result value.Value local.Local) → Roomy p n lines f below t → AllOnward p n lines (return_next g (record t { frames = below }) r)
 return_onward p n lines f below t g (Ok v) h = returned_onward p n lines g v (record t { frames = below }) (ended_onward p n lines lines f below t (omega arith) h)
 return_onward p n lines f below t g (Err l) h = returned_onward p n (suc lines) g values.Nothing (record t { frames = below }) (ended_onward p n lines (suc lines) f below t (omega arith) h)
 
 -- a state with room for a reply
-asked_onward : (p : Parts) (n lines : ℕ) (f : Frame) (below : List Frame) (t : State) → Roomy p n lines f below t → ((r : reply.Reply) (u : used.Use) → Onward p n (suc lines) (taken u r t)) × Onward p n (suc lines) (dropped t)
+asked_onward : (p : ScriptParts) (n lines : ℕ) (f : Frame) (below : List Frame) (t : ThreadState) → Roomy p n lines f below t → ((r : reply.Reply) (u : used.ReplyUse) → Onward p n (suc lines) (taken u r t)) × Onward p n (suc lines) (dropped t)
 asked_onward p n lines f below t h = (λ r u. taken_onward p n lines f below t h u r, roomy_onward p n lines (suc lines) f f below t _ (omega arith) h h.above refl)
 
-finish_onward : (p : Parts) (n lines : ℕ) (f : Frame) (below : List Frame) (t : State) (b : Bool) → Roomy p n lines f below t → AllOnward p n lines (finish_next t b)
+finish_onward : (p : ScriptParts) (n lines : ℕ) (f : Frame) (below : List Frame) (t : ThreadState) (b : Bool) → Roomy p n lines f below t → AllOnward p n lines (finish_next t b)
 finish_onward p n lines f below t true h =
     let closed : Roomy p n lines (record f { opened = false }) below (record t { frames = with_opened false t.frames }) = record {
       above = ap (with_opened false) h.above;
@@ -126,18 +126,18 @@ finish_onward p n lines f below t true h =
     (λ r. taken_onward p n lines _ below _ closed uses.Close r, (asked_onward p n lines _ below _ closed).1)
 finish_onward p n lines f below t false h = roomy_onward p n lines lines f f below t _ (omega arith) h h.above refl
 
-ask_onward : (p : Parts) (n lines : ℕ) (f : Frame) (below : List Frame) (t : State) (r : Result Asked local.Local) → Roomy p n lines f below t → AllOnward p n lines (ask_next t r)
+ask_onward : (p : ScriptParts) (n lines : ℕ) (f : Frame) (below : List Frame) (t : ThreadState) (r : Result Request local.Local) → Roomy p n lines f below t → AllOnward p n lines (ask_next t r)
 ask_onward p n lines f below t (Ok a) h = (λ r. taken_onward p n lines f below t h a.used r, (asked_onward p n lines f below t h).1)
 ask_onward p n lines f below t (Err l) h = roomy_onward p n lines (suc lines) f f below t _ (omega arith) h h.above refl
 
-statement_onward : (p : Parts) (n lines : ℕ) (f : Frame) (below : List Frame) (t : State) (x : stmt.Stmt) → Roomy p n lines f below t → AllOnward p n lines (statement_next t f below x)
+statement_onward : (p : ScriptParts) (n lines : ℕ) (f : Frame) (below : List Frame) (t : ThreadState) (x : stmt.Stmt) → Roomy p n lines f below t → AllOnward p n lines (statement_next t f below x)
 statement_onward p n lines f below t (stmts.Let a v) h = let_onward p n lines f below t a (operand_value t f v) h
 statement_onward p n lines f below t (stmts.Return v) h = return_onward p n lines f below t f.gives (operand_value t f v) h
 statement_onward p n lines f below t stmts.Finish h = finish_onward p n lines f below t f.opened h
 statement_onward p n lines f below t stmts.Checkpoint h = roomy_onward p n lines lines f f below t t (omega arith) h h.above refl
 statement_onward p n lines f below t x h = ask_onward p n lines f below t (asked_by t f x) h
 
-frame_onward : (p : Parts) (lines : ℕ) (f : Frame) (below : List Frame) (s : State) (rest : List stmt.Stmt) → s.frames ≡ f ∷ below → s.call ≡ None → Few p lines s → AllOnward p (size p s) lines (frame_next p s f below rest)
+frame_onward : (p : ScriptParts) (lines : ℕ) (f : Frame) (below : List Frame) (s : ThreadState) (rest : List stmt.Stmt) → s.frames ≡ f ∷ below → s.call ≡ None → Few p lines s → AllOnward p (size p s) lines (frame_next p s f below rest)
 frame_onward p lines f below s [] above free h =
     let same : length s.frames ≡ suc (length below) = ap length above in
     let none_spare : spare s.frames ≡ 0 = ap spare above in
@@ -161,11 +161,11 @@ frame_onward p lines f below s (x ∷ rest) above free h = tests (nat_le p.budge
         let now : pending s.call ≡ 0 = ap pending free in
         statement_onward p (size p s) lines (record f { rest = rest }) below (begun_in s f below rest) x (record { above = refl; free = free; smaller = omega arith; few = omega arith; within = omega arith })
 
-frames_onward : (p : Parts) (lines : ℕ) (s : State) (fs : List Frame) → s.frames ≡ fs → s.call ≡ None → Few p lines s → AllOnward p (size p s) lines (frames_next p s fs)
+frames_onward : (p : ScriptParts) (lines : ℕ) (s : ThreadState) (fs : List Frame) → s.frames ≡ fs → s.call ≡ None → Few p lines s → AllOnward p (size p s) lines (frames_next p s fs)
 frames_onward p lines s [] above free h = tt
 frames_onward p lines s (f ∷ below) above free h = frame_onward p lines f below s f.rest above free h
 
-call_onward : (p : Parts) (lines : ℕ) (s : State) (c : Call) (callee : Option ℕ) → s.call ≡ Some c → Few p lines s → AllOnward p (size p s) lines (call_next p (record s { call = None }) c callee)
+call_onward : (p : ScriptParts) (lines : ℕ) (s : ThreadState) (c : Call) (callee : Option ℕ) → s.call ≡ Some c → Few p lines s → AllOnward p (size p s) lines (call_next p (record s { call = None }) c callee)
 call_onward p lines s c None e h =
     let now : pending s.call ≡ 1 = ap pending e in
     let few = h.few in
@@ -187,10 +187,10 @@ call_onward p lines s c (Some f) e h = tests (nat_le (length s.frames) 16)
         let few = h.few in
         returned_onward p (size p s) (suc lines) c.gives values.Nothing (record s { call = None }) (record { smaller = omega arith; few = record { few = omega arith; within = h.within } })
 
-pending_onward : (p : Parts) (lines : ℕ) (s : State) (c : Option Call) → s.call ≡ c → Few p lines s → AllOnward p (size p s) lines (pending_next p s c)
+pending_onward : (p : ScriptParts) (lines : ℕ) (s : ThreadState) (c : Option Call) → s.call ≡ c → Few p lines s → AllOnward p (size p s) lines (pending_next p s c)
 pending_onward p lines s None e h = frames_onward p lines s s.frames refl e h
 pending_onward p lines s (Some c) e h = call_onward p lines s c c.callee e h
 
 -- whatever comes of the next step is smaller, and its lines are few
-pub next_onward : (p : Parts) (lines : ℕ) (s : State) → Few p lines s → AllOnward p (size p s) lines (next_of p s)
+pub next_onward : (p : ScriptParts) (lines : ℕ) (s : ThreadState) → Few p lines s → AllOnward p (size p s) lines (next_of p s)
 next_onward p lines s h = pending_onward p lines s s.call refl h

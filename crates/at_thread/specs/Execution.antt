@@ -18,13 +18,13 @@ use Rattle.at_script.specs.declared.stmt.Operand as operand
 use Rattle.at_script.specs.declared.stmt.Operand.TheVariants as operands
 use Rattle.at_script.specs.declared.stmt.Target as target
 use Rattle.at_script.specs.declared.stmt.Target.TheVariants as targets
-use Rattle.at_thread.specs.declared.demand.Use as used
-use Rattle.at_thread.specs.declared.demand.Use.TheVariants as uses
-use Rattle.at_thread.specs.declared.demand.Gives as given
-use Rattle.at_thread.specs.declared.demand.Gives.TheVariants as gives
-use Rattle.at_thread.specs.declared.demand.Asked.{Asked}
-use Rattle.at_thread.specs.declared.demand.Call.{Call}
-use Rattle.at_script.specs.Parts.{Parts}
+use Rattle.at_thread.specs.declared.next.ReplyUse as used
+use Rattle.at_thread.specs.declared.next.ReplyUse.TheVariants as uses
+use Rattle.at_thread.specs.declared.next.OnReturn as given
+use Rattle.at_thread.specs.declared.next.OnReturn.TheVariants as gives
+use Rattle.at_thread.specs.declared.next.Request.{Request}
+use Rattle.at_thread.specs.declared.next.Call.{Call}
+use Rattle.at_script.specs.Parts.{ScriptParts}
 
 -- the values of the variables by number, none where a variable isn't bound
 abbrev pub Variables : Type 0
@@ -38,11 +38,11 @@ pub record Frame : Type 0 where
   pub arg : value.Value
   pub rest : List stmt.Stmt
   pub opened : Bool
-  pub gives : given.Gives
+  pub gives : given.OnReturn
 
 -- Where a thread stands: its block and active calls, the innermost first; the call that is to begin before anything else;
 -- the variables; `it`; and how many statements were begun.
-pub record State : Type 0 where
+pub record ThreadState : Type 0 where
   pub frames : List Frame
   pub call : Option Call
   pub variables : Variables
@@ -50,11 +50,11 @@ pub record State : Type 0 where
   pub begun : ℕ
 
 -- what a state demands, and the state that goes on
-pub data Next : Type 0 where
-  ended : Next
-  silent : State → Next
-  says : local.Local → State → Next
-  asks : line_op.LineOp → used.Use → State → Next
+pub data Transition : Type 0 where
+  ended : Transition
+  silent : ThreadState → Transition
+  says : local.Local → ThreadState → Transition
+  asks : line_op.LineOp → used.ReplyUse → ThreadState → Transition
 
 -- Operands. They are evaluated from left to right, and the first that can't be is said.
 
@@ -70,7 +70,7 @@ bound_to a (Some v) = Ok v
 abbrev pub variable_value : Variables → ℕ → Result value.Value local.Local
 variable_value variables a = bound_to a (slice_index_or variables a None)
 
-abbrev pub operand_value : State → Frame → operand.Operand → Result value.Value local.Local
+abbrev pub operand_value : ThreadState → Frame → operand.Operand → Result value.Value local.Local
 operand_value s f (operands.Value v) = Ok v
 operand_value s f (operands.Var a) = variable_value s.variables a
 operand_value s f operands.SelfArg = Ok f.self_arg
@@ -79,11 +79,11 @@ operand_value s f operands.Other = Ok f.other
 operand_value s f operands.It = Ok s.it
 
 -- an operand that may be left out is then none
-abbrev pub given_value : State → Frame → Option operand.Operand → Result value.Value local.Local
+abbrev pub given_value : ThreadState → Frame → Option operand.Operand → Result value.Value local.Local
 given_value s f None = Ok values.Nothing
 given_value s f (Some v) = operand_value s f v
 
-abbrev pub target_value : State → Frame → target.Target → Result value.Value local.Local
+abbrev pub target_value : ThreadState → Frame → target.Target → Result value.Value local.Local
 target_value s f (targets.Class c) = Ok (values.Class c)
 target_value s f (targets.Var a) = variable_value s.variables a
 target_value s f targets.SelfArg = Ok f.self_arg
@@ -95,7 +95,7 @@ abbrev pub as_object : value.Value → Result ℕ local.Local
 as_object (values.Obj o) = Ok o
 as_object v = Err locals.Kind
 
-abbrev pub target_object : State → Frame → target.Target → Result ℕ local.Local
+abbrev pub target_object : ThreadState → Frame → target.Target → Result ℕ local.Local
 target_object s f r = and_then (target_value s f r) as_object
 
 -- reading name x of an object or of a class
@@ -104,22 +104,22 @@ read_of (values.Obj o) x = Ok (ops.Get o x)
 read_of (values.Class c) x = Ok (ops.TypeGet c x)
 read_of v x = Err locals.Kind
 
-abbrev pub target_read : State → Frame → target.Target → ℕ → Result op.Op local.Local
+abbrev pub target_read : ThreadState → Frame → target.Target → ℕ → Result op.Op local.Local
 target_read s f r x = and_then (target_value s f r) (λ v. read_of v x)
 
 -- the second object of a section, where it is another
-abbrev pub other_object : State → Frame → ℕ → Option target.Target → Result (Option ℕ) local.Local
+abbrev pub other_object : ThreadState → Frame → ℕ → Option target.Target → Result (Option ℕ) local.Local
 other_object s f o None = Ok None
 other_object s f o (Some r) = and_then (target_object s f r) (λ p. Ok (if p == o then None else Some p))
 
 -- What statements ask
 
-abbrev pub asking : op.Op → used.Use → Asked
+abbrev pub asking : op.Op → used.ReplyUse → Request
 asking o u = record { op = line_ops.Of o; used = u }
 
 -- The operation that a statement asks for, and what its reply is used for. `let`, `return` and `checkpoint` ask for none,
 -- and the last row is that of `finish`, where its section is open.
-abbrev pub asked_by : State → Frame → stmt.Stmt → Result Asked local.Local
+abbrev pub asked_by : ThreadState → Frame → stmt.Stmt → Result Request local.Local
 asked_by s f (stmts.Class c bases) = Ok (asking (ops.NewClass c bases) uses.Ignore)
 asked_by s f (stmts.Bases c bases) = Ok (asking (ops.SetBases c bases) uses.Ignore)
 asked_by s f (stmts.Put c x v) = and_then (operand_value s f v) (λ w. Ok (asking (ops.TypeSet c x w) uses.Ignore))
@@ -141,25 +141,25 @@ asked_by s f t = Ok (record { op = line_ops.Finish; used = uses.Close })
 
 -- What becomes of a reply
 
-abbrev pub with_it : value.Value → State → State
+abbrev pub with_it : value.Value → ThreadState → ThreadState
 with_it v s = record s { it = v }
 
 -- the statement ends, and `it` is none
-abbrev pub dropped : State → State
+abbrev pub dropped : ThreadState → ThreadState
 dropped s = with_it values.Nothing s
 
-abbrev pub calling : Call → State → State
+abbrev pub calling : Call → ThreadState → ThreadState
 calling c s = record s { call = Some c }
 
 -- a block or a call has ended with this value
-abbrev pub returned : given.Gives → value.Value → State → State
+abbrev pub returned : given.OnReturn → value.Value → ThreadState → ThreadState
 returned gives.Result v s = with_it v s
 returned gives.Nothing v s = dropped s
 returned (gives.Object o) v s = with_it (values.Obj o) s
 
 -- A hook that is a function is called with self the receiver, and one that is a staticmethod with self none. No other
 -- can be called.
-abbrev pub hook_call : value.Value → value.Value → value.Value → value.Value → given.Gives → Call
+abbrev pub hook_call : value.Value → value.Value → value.Value → value.Value → given.OnReturn → Call
 hook_call (values.Func f) r o v g = record { callee = Some f; self_arg = r; other = o; arg = v; gives = g }
 hook_call (values.Static f) r o v g = record { callee = Some f; self_arg = values.Nothing; other = o; arg = v; gives = g }
 hook_call c r o v g = record { callee = None; self_arg = r; other = o; arg = v; gives = g }
@@ -174,7 +174,7 @@ abbrev pub method_call : ℕ → value.Value → value.Value → Call
 method_call f r w = record { callee = Some f; self_arg = r; other = values.Nothing; arg = w; gives = gives.Result }
 
 -- the variable is bound to the value
-abbrev pub binding : ℕ → value.Value → State → State
+abbrev pub binding : ℕ → value.Value → ThreadState → ThreadState
 binding a v s = record s { variables = slice_set s.variables a (Some v) }
 
 -- a section of the innermost frame is open, or isn't
@@ -184,7 +184,7 @@ with_opened b (f ∷ below) = record f { opened = b } ∷ below
 
 -- What becomes of a reply. A reply that the statement has no use for counts as a refusal: the statement ends, and `it` is
 -- none. Where a call follows, `it` stays as it was until the call has ended.
-abbrev pub taken : used.Use → reply.Reply → State → State
+abbrev pub taken : used.ReplyUse → reply.Reply → ThreadState → ThreadState
 taken uses.Read (replies.Value v) s = with_it v s
 taken uses.Read (replies.Hook k c r o v) s = calling (hook_call c r o v gives.Result) s
 taken uses.Learn (replies.Value v) s = with_it v s
@@ -199,28 +199,28 @@ taken u r s = dropped s
 
 -- The next step
 
--- A statement of frame f, which stands above these frames, in a state in which f has left the statement behind; by what its
+-- A statement of frame f, which stands above these frames, in a state in which f has left the statement; by what its
 -- operands gave.
 
-abbrev pub let_next : State → ℕ → Result value.Value local.Local → Next
+abbrev pub let_next : ThreadState → ℕ → Result value.Value local.Local → Transition
 let_next s a (Ok v) = silent (binding a v s)
 let_next s a (Err l) = says l (dropped s)
 
 -- `return` ends its function, with none where its operand has no value
-abbrev pub return_next : given.Gives → State → Result value.Value local.Local → Next
+abbrev pub return_next : given.OnReturn → ThreadState → Result value.Value local.Local → Transition
 return_next g s (Ok v) = silent (returned g v s)
 return_next g s (Err l) = says l (returned g values.Nothing s)
 
 -- `finish` writes no line where its `begin` opened no section
-abbrev pub finish_next : State → Bool → Next
+abbrev pub finish_next : ThreadState → Bool → Transition
 finish_next s true = asks line_ops.Finish uses.Close (record s { frames = with_opened false s.frames })
 finish_next s false = silent (dropped s)
 
-abbrev pub ask_next : State → Result Asked local.Local → Next
+abbrev pub ask_next : ThreadState → Result Request local.Local → Transition
 ask_next s (Ok a) = asks a.op a.used s
 ask_next s (Err l) = says l (dropped s)
 
-abbrev pub statement_next : State → Frame → List Frame → stmt.Stmt → Next
+abbrev pub statement_next : ThreadState → Frame → List Frame → stmt.Stmt → Transition
 statement_next s f below (stmts.Let a v) = let_next s a (operand_value s f v)
 statement_next s f below (stmts.Return v) = return_next f.gives (record s { frames = below }) (operand_value s f v)
 statement_next s f below stmts.Finish = finish_next s f.opened
@@ -228,12 +228,12 @@ statement_next s f below stmts.Checkpoint = silent s
 statement_next s f below t = ask_next s (asked_by s f t)
 
 -- the state in which frame f, above these, has begun its first statement
-abbrev pub begun_in : State → Frame → List Frame → List stmt.Stmt → State
+abbrev pub begun_in : ThreadState → Frame → List Frame → List stmt.Stmt → ThreadState
 begun_in s f below rest = record s { frames = record f { rest = rest } ∷ below; begun = s.begun + 1 }
 
 -- The first statement that is left in a frame, or the frame's end. Where as many statements were begun as the script
 -- allows, the thread ends.
-abbrev pub frame_next : Parts → State → Frame → List Frame → List stmt.Stmt → Next
+abbrev pub frame_next : ScriptParts → ThreadState → Frame → List Frame → List stmt.Stmt → Transition
 frame_next p s f below [] = silent (returned f.gives values.Nothing (record s { frames = below }))
 frame_next p s f below (t ∷ rest) =
     if nat_le p.budget s.begun
@@ -245,32 +245,32 @@ abbrev pub most_calls : ℕ
 most_calls = 16
 
 -- the frame of a call of function f
-abbrev pub called : Parts → Call → ℕ → Frame
+abbrev pub called : ScriptParts → Call → ℕ → Frame
 called p c f = record { self_arg = c.self_arg; other = c.other; arg = c.arg; rest = slice_index_or p.bodies f []; opened = false; gives = c.gives }
 
 -- a call begins, where its callee can be called and no more calls are active than may be; the frames are one more than the
 -- calls, since the first is the block
-abbrev pub call_next : Parts → State → Call → Option ℕ → Next
+abbrev pub call_next : ScriptParts → ThreadState → Call → Option ℕ → Transition
 call_next p s c None = says locals.NotCallable (returned c.gives values.Nothing s)
 call_next p s c (Some f) =
     if nat_le (length s.frames) most_calls
     then silent (record s { frames = called p c f ∷ s.frames })
     else says locals.Depth (returned c.gives values.Nothing s)
 
-abbrev pub frames_next : Parts → State → List Frame → Next
+abbrev pub frames_next : ScriptParts → ThreadState → List Frame → Transition
 frames_next p s [] = ended
 frames_next p s (f ∷ below) = frame_next p s f below f.rest
 
-abbrev pub pending_next : Parts → State → Option Call → Next
+abbrev pub pending_next : ScriptParts → ThreadState → Option Call → Transition
 pending_next p s None = frames_next p s s.frames
 pending_next p s (Some c) = call_next p (record s { call = None }) c c.callee
 
 -- what the thread demands next
-abbrev pub next_of : Parts → State → Next
+abbrev pub next_of : ScriptParts → ThreadState → Transition
 next_of p s = pending_next p s s.call
 
 -- the state in which a thread begins a block with these variables
-abbrev pub start : List stmt.Stmt → Variables → State
+abbrev pub start : List stmt.Stmt → Variables → ThreadState
 start block variables = record {
   frames = record { self_arg = values.Nothing; other = values.Nothing; arg = values.Nothing; rest = block; opened = false; gives = gives.Nothing } ∷ [];
   call = None;

@@ -12,9 +12,9 @@ use Rattle.at_line.specs.declared.line.LineReply as line_reply
 use Rattle.at_line.specs.declared.line.LineReply.TheVariants as line_replies
 use Rattle.at_line.specs.declared.line.What as what
 use Rattle.at_line.specs.declared.line.What.TheVariants as whats
-use Rattle.at_thread.specs.declared.demand.Use as used
-use Rattle.at_script.specs.Parts.{Parts}
-use Rattle.at_thread.specs.Execution.{State, Next, ended, silent, says, asks, dropped, taken, next_of}
+use Rattle.at_thread.specs.declared.next.ReplyUse as used
+use Rattle.at_script.specs.Parts.{ScriptParts}
+use Rattle.at_thread.specs.Execution.{ThreadState, Transition, ended, silent, says, asks, dropped, taken, next_of}
 
 -- What a thread takes of the reply of a line. The begin of a section is done, and its end was kept or suspended; no other
 -- operation has such a reply.
@@ -54,17 +54,17 @@ stands_for (line_ops.Of o) (locals.Worn sequence) = can_wear o
 stands_for o l = false
 
 -- the rest goes on with what becomes of the reply, where it may be replied
-abbrev pub TakesReply : (State → Type 0) → used.Use → State → Option reply.Reply → Type 0
+abbrev pub TakesReply : (ThreadState → Type 0) → used.ReplyUse → ThreadState → Option reply.Reply → Type 0
 TakesReply on u s None = ⊥
 TakesReply on u s (Some r) = on (taken u r s)
 
 -- the line is of this operation with a reply to it, or stands in its place, and the rest goes on
-abbrev pub Answers : (State → Type 0) → line_op.LineOp → used.Use → State → what.What → Type 0
+abbrev pub Answers : (ThreadState → Type 0) → line_op.LineOp → used.ReplyUse → ThreadState → what.What → Type 0
 Answers on o u s (whats.Did place path p r) = (p ≡ o) × TakesReply on u s (reply_taken o r)
 Answers on o u s (whats.Local l) = (stands_for o l ≡ true) × on (dropped s)
 
 -- what is demanded has the first of these lines, or none, and the rest goes on
-abbrev pub Fits : (State → List what.What → Type 0) → Next → List what.What → Type 0
+abbrev pub Fits : (ThreadState → List what.What → Type 0) → Transition → List what.What → Type 0
 Fits on ended lines = ⊥
 Fits on (silent s) lines = on s lines
 Fits on (says l s) [] = ⊥
@@ -73,14 +73,14 @@ Fits on (asks o u s) [] = ⊥
 Fits on (asks o u s) (w ∷ lines) = Answers (λ t. on t lines) o u s w
 
 -- n steps lead from s to t, with these lines
-abbrev pub Leads : Parts → ℕ → State → List what.What → State → Type 0
+abbrev pub Leads : ScriptParts → ℕ → ThreadState → List what.What → ThreadState → Type 0
 Leads p zero s lines t = (lines ≡ []) × (s ≡ t)
 Leads p (suc n) s lines t = Fits (λ u rest. Leads p n u rest t) (next_of p s) lines
 
 -- some steps lead from s to t, where the thread has ended, with these lines
-abbrev pub IsExecution : Parts → State → List what.What → State → Type 0
+abbrev pub IsExecution : ScriptParts → ThreadState → List what.What → ThreadState → Type 0
 IsExecution p s lines t = (next_of p t ≡ ended) × (n : ℕ) × Leads p n s lines t
 
 -- one step leads to t with these lines
-abbrev pub Makes : Next → List what.What → State → Type 0
+abbrev pub Makes : Transition → List what.What → ThreadState → Type 0
 Makes next lines t = Fits (λ u rest. (rest ≡ []) × (u ≡ t)) next lines

@@ -10,8 +10,8 @@ use Rattle.at_line.specs.declared.line.What as what
 use Rattle.at_line.specs.declared.line.What.TheVariants as whats
 use Rattle.at_line.specs.Serial.{NamesNoLimit}
 use Rattle.at_script.specs.declared.stmt.Stmt as stmt
-use Rattle.at_script.specs.Parts.{Parts}
-use Rattle.at_thread.specs.Execution.{Variables, State, says, start, next_of}
+use Rattle.at_script.specs.Parts.{ScriptParts}
+use Rattle.at_thread.specs.Execution.{Variables, ThreadState, says, start, next_of}
 use Rattle.at_thread.specs.Executions.{IsExecution}
 use Rattle.at_thread.specs.Runs.{numbered}
 
@@ -34,14 +34,14 @@ all_told (w ∷ more) = told_by w ++ all_told more
 -- two executions from one state that are told the same are the same
 abbrev pub RepliesDetermineExecutions : Type 0
 RepliesDetermineExecutions =
-    (s : Parts) (begin first_end second_end : State) (first second : List what.What) → IsExecution s begin first first_end → IsExecution s begin second second_end
+    (s : ScriptParts) (begin first_end second_end : ThreadState) (first second : List what.What) → IsExecution s begin first first_end → IsExecution s begin second second_end
     → all_told first ≡ all_told second → (first ≡ second) × (first_end ≡ second_end)
 
 -- an execution of a block has at most two lines a statement begun and one more, and begins at most as many statements as
 -- the script allows
 abbrev pub ExecutionsAreShort : Type 0
 ExecutionsAreShort =
-    (s : Parts) (block : List stmt.Stmt) (variables : Variables) (lines : List what.What) (end : State) → IsExecution s (start block variables) lines end
+    (s : ScriptParts) (block : List stmt.Stmt) (variables : Variables) (lines : List what.What) (end : ThreadState) → IsExecution s (start block variables) lines end
     → (length lines ≤ 2 * end.begun + 1) × (end.begun ≤ s.budget)
 
 -- the lines of a thread are numbered from 1 without a gap
@@ -50,4 +50,4 @@ NumbersHaveNoGap = (thread i : ℕ) (says : List what.What) (line : Line) → sl
 
 -- a line that a state demands by itself names no limit
 abbrev pub OwnLinesNameNoLimit : Type 0
-OwnLinesNameNoLimit = (s : Parts) (before after : State) (l : local.Local) → next_of s before ≡ says l after → NamesNoLimit (whats.Local l)
+OwnLinesNameNoLimit = (s : ScriptParts) (before after : ThreadState) (l : local.Local) → next_of s before ≡ says l after → NamesNoLimit (whats.Local l)

@@ -5,8 +5,8 @@ use Rattle.at_line.specs.declared.line.What as what
 use Rattle.at_line.specs.Lines.{main_thread, finally_thread}
 use Rattle.at_line.specs.Kept.{whats_of_thread}
 use Rattle.at_script.specs.declared.stmt.Stmt as stmt
-use Rattle.at_script.specs.Parts.{Parts}
-use Rattle.at_thread.specs.Execution.{Variables, State, start}
+use Rattle.at_script.specs.Parts.{ScriptParts}
+use Rattle.at_thread.specs.Execution.{Variables, ThreadState, start}
 use Rattle.at_thread.specs.Executions.{IsExecution}
 
 -- the lines of a thread that say this, numbered from this number on
@@ -15,28 +15,28 @@ numbered thread number [] = []
 numbered thread number (w ∷ more) = record { what = w; number = number; thread = thread } ∷ numbered thread (suc number) more
 
 -- the lines of so many threads from this one on, one thread after another, each numbered from 1
-abbrev pub in_order : ℕ → ℕ → (ℕ → List what.What) → List Line
-in_order zero thread says = []
-in_order (suc count) thread says = numbered thread 1 (says thread) ++ in_order count (suc thread) says
+abbrev pub lines_in_order : ℕ → ℕ → (ℕ → List what.What) → List Line
+lines_in_order zero thread says = []
+lines_in_order (suc count) thread says = numbered thread 1 (says thread) ++ lines_in_order count (suc thread) says
 
 -- the lines of `main`, of so many threads from 1 on, and of `finally`
 abbrev pub whole : ℕ → (ℕ → List what.What) → List Line
-whole count says = in_order (suc count) main_thread says ++ numbered finally_thread 1 (says finally_thread)
+whole count says = lines_in_order (suc count) main_thread says ++ numbered finally_thread 1 (says finally_thread)
 
 -- The lines are an execution of the block that begins with these variables and ends with those.
-pub record Executes (s : Parts) (block : List stmt.Stmt) (before : Variables) (lines : List what.What) (after : Variables) : Type 0 where
-  pub end : State
+pub record Executes (s : ScriptParts) (block : List stmt.Stmt) (before : Variables) (lines : List what.What) (after : Variables) : Type 0 where
+  pub end : ThreadState
   pub runs : IsExecution s (start block before) lines end
   pub leaves : end.variables ≡ after
 
 -- the variables of a script, none of which is bound
-abbrev pub unbound : Parts → Variables
+abbrev pub unbound : ScriptParts → Variables
 unbound s = replicate (length s.vars) None
 
 -- The lines are those of `main`, of each thread of the script and of `finally`, one thread after another and each numbered
 -- from 1, and no other. Those of each are an execution of its block. The variables of the threads and of `finally` begin as
 -- those of `main` end.
-pub record IsRunOf (s : Parts) (lines : List Line) : Type 0 where
+pub record IsRunOf (s : ScriptParts) (lines : List Line) : Type 0 where
   pub order : lines ≡ whole (length s.threads) (λ thread. whats_of_thread thread lines)
   pub variables : Variables
   pub main : Executes s s.main (unbound s) (whats_of_thread main_thread lines) variables

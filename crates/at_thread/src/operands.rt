@@ -3,17 +3,17 @@ ghost use Rattle.std.specs.Prelude.{◌≡◌};
 ghost use Rattle.at_thread.specs.Execution as execution;
 ghost use Rattle.at_thread.specs.Threads.{frame_of, state_of};
 
-use crate::demand::{Asked, Use};
+use crate::next::{ReplyUse, Request};
 use crate::thread::{Frame, Thread};
 use at_line::{LineOp, Local};
 use at_script::{Operand, Stmt, Target};
 use at_value::{Name, Obj, Op, Value};
 
 /// An operation of the data model, and the use of its reply.
-fn asking(op: Op, used: Use) -> Asked
+fn asking(op: Op, used: ReplyUse) -> Request
     ensures { result ≡ execution.asking op used }
 {
-    Asked {
+    Request {
         op: LineOp::Of(op),
         used,
     }
@@ -128,77 +128,77 @@ impl<'a> Thread<'a> {
     /// The operation that a statement on classes or objects asks for, or the begin of its section, with the use of the reply.
     /// For any other statement the row is that of `finish`, the end of a section; `let`, `return` and `checkpoint` ask for
     /// none.
-    pub(crate) fn asked_by(&self, frame: &Frame<'a>, stmt: &Stmt) -> Result<Asked, Local>
+    pub(crate) fn asked_by(&self, frame: &Frame<'a>, stmt: &Stmt) -> Result<Request, Local>
         ensures { result ≡ execution.asked_by (state_of self.now) (frame_of frame.now) stmt.now }
     {
         match stmt {
-            Stmt::Class(c, bases) => Ok(asking(Op::NewClass(*c, *bases), Use::Ignore)),
-            Stmt::Bases(c, bases) => Ok(asking(Op::SetBases(*c, *bases), Use::Ignore)),
+            Stmt::Class(c, bases) => Ok(asking(Op::NewClass(*c, *bases), ReplyUse::Ignore)),
+            Stmt::Bases(c, bases) => Ok(asking(Op::SetBases(*c, *bases), ReplyUse::Ignore)),
             Stmt::Put(c, x, v) => {
                 let value = self.operand_value(frame, v)?;
-                Ok(asking(Op::TypeSet(*c, *x, value), Use::Ignore))
+                Ok(asking(Op::TypeSet(*c, *x, value), ReplyUse::Ignore))
             }
-            Stmt::Cut(c, x) => Ok(asking(Op::TypeDel(*c, *x), Use::Ignore)),
+            Stmt::Cut(c, x) => Ok(asking(Op::TypeDel(*c, *x), ReplyUse::Ignore)),
             Stmt::New(a, c, v) => {
                 let argument = self.given_value(frame, v)?;
-                Ok(asking(Op::New(*c), Use::Bind(*a, argument)))
+                Ok(asking(Op::New(*c), ReplyUse::Bind(*a, argument)))
             }
             Stmt::Set(r, x, v) => {
                 let object = self.target_object(frame, r)?;
                 let value = self.operand_value(frame, v)?;
-                Ok(asking(Op::Set(object, *x, value), Use::Write))
+                Ok(asking(Op::Set(object, *x, value), ReplyUse::Write))
             }
             Stmt::Del(r, x) => {
                 let object = self.target_object(frame, r)?;
-                Ok(asking(Op::Del(object, *x), Use::Write))
+                Ok(asking(Op::Del(object, *x), ReplyUse::Write))
             }
             Stmt::Get(r, x) => {
                 let read = self.target_read(frame, r, *x)?;
-                Ok(asking(read, Use::Read))
+                Ok(asking(read, ReplyUse::Read))
             }
             Stmt::Turn(r, c) => {
                 let object = self.target_object(frame, r)?;
-                Ok(asking(Op::SetClass(object, *c), Use::Ignore))
+                Ok(asking(Op::SetClass(object, *c), ReplyUse::Ignore))
             }
             Stmt::Share(r, q) => {
                 let object = self.target_object(frame, r)?;
                 let other = self.target_object(frame, q)?;
-                Ok(asking(Op::Share(object, other), Use::Ignore))
+                Ok(asking(Op::Share(object, other), ReplyUse::Ignore))
             }
             Stmt::Super(c, r, x) => {
                 let object = self.target_object(frame, r)?;
-                Ok(asking(Op::Super(*c, object, *x), Use::Read))
+                Ok(asking(Op::Super(*c, object, *x), ReplyUse::Read))
             }
             Stmt::Special(r, x) => {
                 let object = self.target_object(frame, r)?;
-                Ok(asking(Op::Special(object, *x), Use::Read))
+                Ok(asking(Op::Special(object, *x), ReplyUse::Read))
             }
             Stmt::ClassOf(r) => {
                 let object = self.target_object(frame, r)?;
-                Ok(asking(Op::ClassOf(object), Use::Learn))
+                Ok(asking(Op::ClassOf(object), ReplyUse::Learn))
             }
-            Stmt::Mro(c) => Ok(asking(Op::Mro(*c), Use::Ignore)),
+            Stmt::Mro(c) => Ok(asking(Op::Mro(*c), ReplyUse::Ignore)),
             Stmt::Call(r, x, v) => {
                 let read = self.target_read(frame, r, *x)?;
                 let argument = self.given_value(frame, v)?;
-                Ok(asking(read, Use::Call(argument)))
+                Ok(asking(read, ReplyUse::Call(argument)))
             }
             Stmt::CallSuper(c, r, x, v) => {
                 let object = self.target_object(frame, r)?;
                 let argument = self.given_value(frame, v)?;
-                Ok(asking(Op::Super(*c, object, *x), Use::Call(argument)))
+                Ok(asking(Op::Super(*c, object, *x), ReplyUse::Call(argument)))
             }
             Stmt::Begin(r, q) => {
                 let object = self.target_object(frame, r)?;
                 let other = self.other_object(frame, object, q)?;
-                Ok(Asked {
+                Ok(Request {
                     op: LineOp::Begin(object, other),
-                    used: Use::Open,
+                    used: ReplyUse::Open,
                 })
             }
-            _ => Ok(Asked {
+            _ => Ok(Request {
                 op: LineOp::Finish,
-                used: Use::Close,
+                used: ReplyUse::Close,
             }),
         }
     }

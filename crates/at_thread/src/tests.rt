@@ -1,5 +1,5 @@
 //! A thread that executes the statements of a script, and the laws of executions.
-use crate::{Demand, Thread, Use, laws};
+use crate::{Next, ReplyUse, Thread, laws};
 use at_line::{LineOp, Local};
 use at_script::{Block, Script, Stmt, read};
 use at_value::{Bases, Class, Func, HookKind, Name, Obj, Op, Reply, Value};
@@ -40,8 +40,8 @@ fn function() -> Value {
 }
 
 /// The demand of an operation.
-fn asks(op: Op, used: Use) -> Demand {
-    Demand::Asks(LineOp::Of(op), used)
+fn asks(op: Op, used: ReplyUse) -> Next {
+    Next::Asks(LineOp::Of(op), used)
 }
 
 fn hook() -> Reply {
@@ -56,8 +56,8 @@ fn hook() -> Reply {
 }
 
 /// Answers a demand, where it is that of an operation.
-fn answer(thread: &mut Thread<'_>, demand: &Demand, told: Told) {
-    let Demand::Asks(_, used) = demand else {
+fn answer(thread: &mut Thread<'_>, demand: &Next, told: Told) {
+    let Next::Asks(_, used) = demand else {
         return;
     };
     match told {
@@ -73,7 +73,7 @@ fn demands<'a, R: Abort>(
     rt: &R,
     thread: &mut Thread<'a>,
     script: &'a Script,
-    wanted: &Demand,
+    wanted: &Next,
     told: Told,
 ) {
     let demand = thread.next(script);
@@ -108,7 +108,7 @@ fn execute<R: Abort>(
     rt: &R,
     alloc: Global,
     script: &Script,
-    steps: &[(Demand, Told)],
+    steps: &[(Next, Told)],
 ) -> Result<(), Fail> {
     let mut thread = main_of(alloc, script)?;
     for (wanted, told) in steps {
@@ -123,33 +123,33 @@ fn execute_text<R: Abort>(
     rt: &R,
     alloc: Global,
     text: &str,
-    steps: &[(Demand, Told)],
+    steps: &[(Next, Told)],
 ) -> Result<(), Fail> {
     let script = script_of(alloc, text)?;
     execute(rt, alloc, &script, steps)
 }
 
 /// `class C`, which is the first statement of each script here.
-fn class_is_made() -> (Demand, Told) {
+fn class_is_made() -> (Next, Told) {
     let made = Op::NewClass(class(), Bases::only(Class::object()));
-    (asks(made, Use::Ignore), Told::Done)
+    (asks(made, ReplyUse::Ignore), Told::Done)
 }
 
 const CALLING: &str = "attrs 1\nfunc f\nend\nmain\nclass C\nput C.x f\nnew a C 7\nend\n";
 
-fn calling_steps() -> [(Demand, Told); 8] {
+fn calling_steps() -> [(Next, Told); 8] {
     let put = Op::TypeSet(class(), name(), function());
-    let bind = Use::Bind(0, Value::Int(7));
+    let bind = ReplyUse::Bind(0, Value::Int(7));
     [
         class_is_made(),
-        (asks(put, Use::Ignore), Told::Done),
+        (asks(put, ReplyUse::Ignore), Told::Done),
         (asks(Op::New(class()), bind), Told::Made),
         // The function begins and ends, and then `main` ends.
-        (Demand::Silent, Told::Done),
-        (Demand::Silent, Told::Done),
-        (Demand::Silent, Told::Done),
-        (Demand::Ended, Told::Done),
-        (Demand::Ended, Told::Done),
+        (Next::Silent, Told::Done),
+        (Next::Silent, Told::Done),
+        (Next::Silent, Told::Done),
+        (Next::Ended, Told::Done),
+        (Next::Ended, Told::Done),
     ]
 }
 
@@ -161,21 +161,21 @@ fn an_object_is_bound_before_its_init_runs(rt: HostRuntime) -> Result<(), Fail> 
 const SAYING: &str =
     "attrs 1\nmain\nclass C\nnew a C\nset b.x 1\nget a.x\nset C.x 1\ndel a.x\nend\n";
 
-fn saying_steps() -> [(Demand, Told); 11] {
-    let bind = Use::Bind(0, Value::Nothing);
+fn saying_steps() -> [(Next, Told); 11] {
+    let bind = ReplyUse::Bind(0, Value::Nothing);
     let (get, del) = (Op::Get(object(), name()), Op::Del(object(), name()));
     [
         class_is_made(),
         (asks(Op::New(class()), bind), Told::Made),
-        (Demand::Silent, Told::Done),
-        (Demand::Silent, Told::Done),
-        (Demand::Says(Local::Unbound(1)), Told::Done),
-        (asks(get, Use::Read), Told::Hook),
-        (Demand::Says(Local::NotCallable), Told::Done),
-        (Demand::Says(Local::Kind), Told::Done),
-        (asks(del, Use::Write), Told::Declined),
-        (Demand::Silent, Told::Done),
-        (Demand::Ended, Told::Done),
+        (Next::Silent, Told::Done),
+        (Next::Silent, Told::Done),
+        (Next::Says(Local::Unbound(1)), Told::Done),
+        (asks(get, ReplyUse::Read), Told::Hook),
+        (Next::Says(Local::NotCallable), Told::Done),
+        (Next::Says(Local::Kind), Told::Done),
+        (asks(del, ReplyUse::Write), Told::Declined),
+        (Next::Silent, Told::Done),
+        (Next::Ended, Told::Done),
     ]
 }
 

@@ -2,10 +2,10 @@
 ghost use Rattle.std.specs.Prelude.{◌≡◌, ◌<◌, [], map, length, IfOk, slice_index_or};
 ghost use Rattle.at_thread.specs.Execution as execution;
 ghost use Rattle.at_thread.specs.Execution.{taken, next_of, start};
-ghost use Rattle.at_thread.specs.Threads.{frame_of, state_of, with_frame, demanded};
-ghost use Rattle.at_thread.specs.declared.demand.Use.TheVariants as uses;
+ghost use Rattle.at_thread.specs.Threads.{frame_of, state_of, with_frame, transition_of};
+ghost use Rattle.at_thread.specs.declared.next.ReplyUse.TheVariants as uses;
 
-use crate::demand::{Asked, Call, Demand, Gives, Use};
+use crate::next::{Call, Next, OnReturn, ReplyUse, Request};
 use crate::stack::Stack;
 use at_line::{LineOp, Local};
 use at_script::{Block, Operand, Script, Stmt};
@@ -26,7 +26,7 @@ pub(crate) struct Frame<'a> {
     pub(crate) arg: Value,
     pub(crate) rest: &'a [Stmt],
     pub(crate) opened: bool,
-    pub(crate) gives: Gives,
+    pub(crate) gives: OnReturn,
 }
 
 impl<'a> Frame<'a> {
@@ -56,7 +56,7 @@ pub struct Thread<'a> {
 }
 
 /// The call of a hook: a function is called with self the receiver, a staticmethod with self none.
-fn hook_call(callee: &Value, receiver: Value, other: Value, arg: Value, gives: Gives) -> Call
+fn hook_call(callee: &Value, receiver: Value, other: Value, arg: Value, gives: OnReturn) -> Call
     ensures { result ≡ execution.hook_call callee.now receiver other arg gives }
 {
     match callee {
@@ -92,7 +92,7 @@ fn value_call(value: &Value, arg: Value) -> Call
         self_arg: Value::Nothing,
         other: Value::Nothing,
         arg,
-        gives: Gives::Result,
+        gives: OnReturn::Result,
         callee: match value {
             Value::Func(function) => Some(*function),
             _ => None,
@@ -108,7 +108,7 @@ fn method_call(function: Func, receiver: Value, arg: Value) -> Call
         self_arg: receiver,
         other: Value::Nothing,
         arg,
-        gives: Gives::Result,
+        gives: OnReturn::Result,
         callee: Some(function),
     }
 }
@@ -139,7 +139,7 @@ impl<'a> Thread<'a> {
             arg: Value::Nothing,
             rest: block,
             opened: false,
-            gives: Gives::Nothing,
+            gives: OnReturn::Nothing,
         });
         Ok(Thread {
             frames,
@@ -158,13 +158,13 @@ impl<'a> Thread<'a> {
     }
 
     /// A block or a call has ended with this value.
-    fn end(&mut self, gives: &Gives, value: Value)
+    fn end(&mut self, gives: &OnReturn, value: Value)
         ensures { state_of self.new ≡ execution.returned gives.now value (state_of self.old) }
     {
         self.it = match gives {
-            Gives::Result => value,
-            Gives::Nothing => Value::Nothing,
-            Gives::Object(object) => Value::Obj(*object),
+            OnReturn::Result => value,
+            OnReturn::Nothing => Value::Nothing,
+            OnReturn::Object(object) => Value::Obj(*object),
         };
     }
 
@@ -178,79 +178,79 @@ impl<'a> Thread<'a> {
         }
     }
 
-    fn next_let(&mut self, frame: &Frame<'a>, variable: u16, operand: &Operand) -> Demand
+    fn next_let(&mut self, frame: &Frame<'a>, variable: u16, operand: &Operand) -> Next
         requires { length self.old.frames < 17 }
-        ensures { execution.let_next (with_frame frame.now self.old) variable (execution.operand_value (state_of self.old) (frame_of frame.now) operand.now) ≡ demanded result (state_of self.new) }
+        ensures { execution.let_next (with_frame frame.now self.old) variable (execution.operand_value (state_of self.old) (frame_of frame.now) operand.now) ≡ transition_of result (state_of self.new) }
     {
         let value = self.operand_value(frame, operand);
         self.frames.push(frame.with_opened(frame.opened));
         match value {
             Ok(value) => {
                 self.bind(variable, value);
-                Demand::Silent
+                Next::Silent
             }
             Err(local) => {
                 self.it = Value::Nothing;
-                Demand::Says(local)
+                Next::Says(local)
             }
         }
     }
 
-    fn next_return(&mut self, frame: &Frame<'a>, operand: &Operand) -> Demand
-        ensures { execution.return_next frame.now.gives (state_of self.old) (execution.operand_value (state_of self.old) (frame_of frame.now) operand.now) ≡ demanded result (state_of self.new) }
+    fn next_return(&mut self, frame: &Frame<'a>, operand: &Operand) -> Next
+        ensures { execution.return_next frame.now.gives (state_of self.old) (execution.operand_value (state_of self.old) (frame_of frame.now) operand.now) ≡ transition_of result (state_of self.new) }
     {
         match self.operand_value(frame, operand) {
             Ok(value) => {
                 self.end(&frame.gives, value);
-                Demand::Silent
+                Next::Silent
             }
             Err(local) => {
                 self.end(&frame.gives, Value::Nothing);
-                Demand::Says(local)
+                Next::Says(local)
             }
         }
     }
 
-    fn next_finish(&mut self, frame: &Frame<'a>) -> Demand
+    fn next_finish(&mut self, frame: &Frame<'a>) -> Next
         requires { length self.old.frames < 17 }
-        ensures { execution.finish_next (with_frame frame.now self.old) frame.now.opened ≡ demanded result (state_of self.new) }
+        ensures { execution.finish_next (with_frame frame.now self.old) frame.now.opened ≡ transition_of result (state_of self.new) }
     {
         self.frames.push(frame.with_opened(false));
         if frame.opened {
-            Demand::Asks(LineOp::Finish, Use::Close)
+            Next::Asks(LineOp::Finish, ReplyUse::Close)
         } else {
             self.it = Value::Nothing;
-            Demand::Silent
+            Next::Silent
         }
     }
 
-    fn next_checkpoint(&mut self, frame: &Frame<'a>) -> Demand
+    fn next_checkpoint(&mut self, frame: &Frame<'a>) -> Next
         requires { length self.old.frames < 17 }
-        ensures { execution.silent (with_frame frame.now self.old) ≡ demanded result (state_of self.new) }
+        ensures { execution.silent (with_frame frame.now self.old) ≡ transition_of result (state_of self.new) }
     {
         self.frames.push(frame.with_opened(frame.opened));
-        Demand::Silent
+        Next::Silent
     }
 
-    fn next_asking(&mut self, frame: &Frame<'a>, stmt: &Stmt) -> Demand
+    fn next_asking(&mut self, frame: &Frame<'a>, stmt: &Stmt) -> Next
         requires { length self.old.frames < 17 }
-        ensures { execution.ask_next (with_frame frame.now self.old) (execution.asked_by (state_of self.old) (frame_of frame.now) stmt.now) ≡ demanded result (state_of self.new) }
+        ensures { execution.ask_next (with_frame frame.now self.old) (execution.asked_by (state_of self.old) (frame_of frame.now) stmt.now) ≡ transition_of result (state_of self.new) }
     {
         let asked = self.asked_by(frame, stmt);
         self.frames.push(frame.with_opened(frame.opened));
         match asked {
-            Ok(asked) => Demand::Asks(asked.op, asked.used),
+            Ok(asked) => Next::Asks(asked.op, asked.used),
             Err(local) => {
                 self.it = Value::Nothing;
-                Demand::Says(local)
+                Next::Says(local)
             }
         }
     }
 
-    /// Begins a statement that its frame has left behind.
-    fn next_of_statement(&mut self, frame: &Frame<'a>, stmt: &Stmt) -> Demand
+    /// Begins a statement that its frame has left.
+    fn next_of_statement(&mut self, frame: &Frame<'a>, stmt: &Stmt) -> Next
         requires { length self.old.frames < 17 }
-        ensures { execution.statement_next (with_frame frame.now self.old) (frame_of frame.now) (map frame_of self.old.frames) stmt.now ≡ demanded result (state_of self.new) }
+        ensures { execution.statement_next (with_frame frame.now self.old) (frame_of frame.now) (map frame_of self.old.frames) stmt.now ≡ transition_of result (state_of self.new) }
     {
         match stmt {
             Stmt::Let(variable, operand) => self.next_let(frame, *variable, operand),
@@ -262,33 +262,33 @@ impl<'a> Thread<'a> {
     }
 
     /// Begins the first statement that is left in a frame, or ends the frame.
-    fn next_of_frame(&mut self, frame: &Frame<'a>, script: &'a Script) -> Demand
+    fn next_of_frame(&mut self, frame: &Frame<'a>, script: &'a Script) -> Next
         requires { length self.old.frames < 17 }
-        ensures { execution.frame_next script.now (state_of self.old) (frame_of frame.now) (map frame_of self.old.frames) frame.now.rest.now ≡ demanded result (state_of self.new) }
+        ensures { execution.frame_next script.now (state_of self.old) (frame_of frame.now) (map frame_of self.old.frames) frame.now.rest.now ≡ transition_of result (state_of self.new) }
     {
         let Some((stmt, rest)) = frame.rest.split_first() else {
             self.end(&frame.gives, Value::Nothing);
-            return Demand::Silent;
+            return Next::Silent;
         };
         if self.begun >= script.budget() {
             self.frames.clear();
-            return Demand::Says(Local::Budget);
+            return Next::Says(Local::Budget);
         }
         self.begun += 1;
         self.next_of_statement(&frame.with_rest(rest), stmt)
     }
 
     /// Begins a call.
-    fn next_of_call(&mut self, script: &'a Script, call: &Call) -> Demand
-        ensures { execution.call_next script.now (state_of self.old) call.now call.now.callee ≡ demanded result (state_of self.new) }
+    fn next_of_call(&mut self, script: &'a Script, call: &Call) -> Next
+        ensures { execution.call_next script.now (state_of self.old) call.now call.now.callee ≡ transition_of result (state_of self.new) }
     {
         let Some(function) = call.callee else {
             self.end(&call.gives, Value::Nothing);
-            return Demand::Says(Local::NotCallable);
+            return Next::Says(Local::NotCallable);
         };
         if self.frames.len() > MOST_CALLS {
             self.end(&call.gives, Value::Nothing);
-            return Demand::Says(Local::Depth);
+            return Next::Says(Local::Depth);
         }
         self.frames.push(Frame {
             self_arg: call.self_arg,
@@ -298,14 +298,14 @@ impl<'a> Thread<'a> {
             opened: false,
             gives: call.gives,
         });
-        Demand::Silent
+        Next::Silent
     }
 
     /// What the thread demands next. After a demand `Asks` it goes on with `accept` or `decline`, and after each other with
     /// `next`; a thread that has ended stays as it is. It takes no memory.
-    pub fn next(&mut self, script: &'a Script) -> Demand
-        ensures next { next_of script.now (state_of self.old) ≡ demanded result (state_of self.new) }
-        ensures ended { result ≡ Demand.Ended → state_of self.new ≡ state_of self.old }
+    pub fn next(&mut self, script: &'a Script) -> Next
+        ensures next { next_of script.now (state_of self.old) ≡ transition_of result (state_of self.new) }
+        ensures ended { result ≡ Next.Ended → state_of self.new ≡ state_of self.old }
     {
         if let Some(call) = self.call {
             self.call = None;
@@ -313,22 +313,22 @@ impl<'a> Thread<'a> {
         }
         match self.frames.pop() {
             Some(frame) => self.next_of_frame(&frame, script),
-            None => Demand::Ended,
+            None => Next::Ended,
         }
     }
 
     /// Takes the reply to what was asked.
-    pub fn accept(&mut self, used: &Use, reply: &Reply)
+    pub fn accept(&mut self, used: &ReplyUse, reply: &Reply)
         ensures { state_of self.new ≡ taken used.now reply.now (state_of self.old) }
     {
         match used {
-            Use::Read => self.accept_read(reply),
-            Use::Learn => self.accept_learned(reply),
-            Use::Write => self.accept_written(reply),
-            Use::Call(argument) => self.accept_called(argument, reply),
-            Use::Bind(variable, argument) => self.accept_made(*variable, argument, reply),
-            Use::Open => self.accept_opened(reply),
-            Use::Ignore | Use::Close => self.it = Value::Nothing,
+            ReplyUse::Read => self.accept_read(reply),
+            ReplyUse::Learn => self.accept_learned(reply),
+            ReplyUse::Write => self.accept_written(reply),
+            ReplyUse::Call(argument) => self.accept_called(argument, reply),
+            ReplyUse::Bind(variable, argument) => self.accept_made(*variable, argument, reply),
+            ReplyUse::Open => self.accept_opened(reply),
+            ReplyUse::Ignore | ReplyUse::Close => self.it = Value::Nothing,
         }
     }
 
@@ -338,7 +338,7 @@ impl<'a> Thread<'a> {
         match reply {
             Reply::Value(value) => self.it = *value,
             Reply::Hook(_, callee, receiver, other, value) => {
-                self.call = Some(hook_call(callee, *receiver, *other, *value, Gives::Result));
+                self.call = Some(hook_call(callee, *receiver, *other, *value, OnReturn::Result));
             }
             _ => self.it = Value::Nothing,
         }
@@ -358,7 +358,7 @@ impl<'a> Thread<'a> {
     {
         match reply {
             Reply::Hook(_, callee, receiver, other, value) => {
-                self.call = Some(hook_call(callee, *receiver, *other, *value, Gives::Nothing));
+                self.call = Some(hook_call(callee, *receiver, *other, *value, OnReturn::Nothing));
             }
             _ => self.it = Value::Nothing,
         }
@@ -373,7 +373,7 @@ impl<'a> Thread<'a> {
                 self.call = Some(method_call(*function, *receiver, *argument));
             }
             Reply::Hook(_, callee, receiver, other, value) => {
-                self.call = Some(hook_call(callee, *receiver, *other, *value, Gives::Result));
+                self.call = Some(hook_call(callee, *receiver, *other, *value, OnReturn::Result));
             }
             _ => self.it = Value::Nothing,
         }
@@ -394,7 +394,7 @@ impl<'a> Thread<'a> {
                     Value::Obj(*object),
                     Value::Nothing,
                     *argument,
-                    Gives::Object(*object),
+                    OnReturn::Object(*object),
                 ));
             }
             None => self.it = Value::Obj(*object),

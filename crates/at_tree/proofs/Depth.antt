@@ -78,7 +78,7 @@ module _ (tree : List (List ℕ)) (stop : List Bool) (t : IsTree tree) where
   walked_again zero list c h = refl
   walked_again (suc depth) list c h = ap (λ b. cond b list (fold (walked depth tree stop) list (entered tree stop c) ++ c ∷ [])) (has_true list c h)
 
-  -- else it adds the class behind what is entered from it
+  -- else it adds the class after what is entered from it
   walked_first : (depth : ℕ) (list mid : List ℕ) (c : ℕ) → ¬ Contains list c → fold (walked depth tree stop) list (entered tree stop c) ≡ mid → walked (suc depth) tree stop list c ≡ mid ++ c ∷ []
   walked_first depth list mid c h e =
       ap (λ b. cond b list (fold (walked depth tree stop) list (entered tree stop c) ++ c ∷ [])) (has_false list c h) ∙ ap (λ xs. xs ++ c ∷ []) e

@@ -22,8 +22,8 @@ at_cons x xs y (suc k) lt e = inr (k, (omega (arith, lt)), e)
 pub in_cons : {X : Type 0} (x : X) (xs : List X) (y : X) → Contains (x ∷ xs) y → (x ≡ y) ⊎ Contains xs y
 in_cons x xs y h = at_cons x xs y h.0 h.1 h.2
 
--- what stands before and behind an element
-pub parted : {X : Type 0} (xs : List X) (x : X) → Contains xs x → (front : List X) × (back : List X) × (xs ≡ front ++ x ∷ back)
+-- what stands before and after an element
+pub parted : {X : Type 0} (xs : List X) (x : X) → Contains xs x → (prefix : List X) × (back : List X) × (xs ≡ prefix ++ x ∷ back)
 parted [] x h = absurd (none_in x h)
 parted (y ∷ ys) x h =
     ⊎_elim
@@ -32,19 +32,19 @@ parted (y ∷ ys) x h =
     (in_cons y ys x h)
 
 -- an element of a list with one more at its end is the last, or has its place in the list before
-pub parted_push : {X : Type 0} (xs : List X) (x : X) (front : List X) (y : X) (back : List X) → xs ++ x ∷ [] ≡ front ++ y ∷ back → ((xs ≡ front) × (x ≡ y)) ⊎ ((rest : List X) × (xs ≡ front ++ y ∷ rest))
+pub parted_push : {X : Type 0} (xs : List X) (x : X) (prefix : List X) (y : X) (back : List X) → xs ++ x ∷ [] ≡ prefix ++ y ∷ back → ((xs ≡ prefix) × (x ≡ y)) ⊎ ((rest : List X) × (xs ≡ prefix ++ y ∷ rest))
 parted_push [] x [] y back e = inl (refl, cc)
-parted_push [] x (f ∷ front) y back e = absurd (omega (arith, ap length e, length-append front (y ∷ back)))
+parted_push [] x (f ∷ prefix) y back e = absurd (omega (arith, ap length e, length-append prefix (y ∷ back)))
 parted_push (z ∷ zs) x [] y back e = let h : z ≡ y = cc in inr (zs, ap (λ w. w ∷ zs) h)
-parted_push (z ∷ zs) x (f ∷ front) y back e =
+parted_push (z ∷ zs) x (f ∷ prefix) y back e =
     let h : z ≡ f = cc in
-    let t : zs ++ x ∷ [] ≡ front ++ y ∷ back = cc in
+    let t : zs ++ x ∷ [] ≡ prefix ++ y ∷ back = cc in
     ⊎_elim
     (λ p. inl ((ap (λ w. w ∷ zs) h ∙ ap (λ ws. f ∷ ws) p.0), p.1))
     (λ p. inr (p.0, (ap (λ w. w ∷ zs) h ∙ ap (λ ws. f ∷ ws) p.1)))
-    (parted_push zs x front y back t)
+    (parted_push zs x prefix y back t)
 
 -- an element is where it stands
-pub in_middle : {X : Type 0} (front : List X) (x : X) (back : List X) → Contains (front ++ x ∷ back) x
+pub in_middle : {X : Type 0} (prefix : List X) (x : X) (back : List X) → Contains (prefix ++ x ∷ back) x
 in_middle [] x back = in_here x back
-in_middle (f ∷ front) x back = in_there f (front ++ x ∷ back) x (in_middle front x back)
+in_middle (f ∷ prefix) x back = in_there f (prefix ++ x ∷ back) x (in_middle prefix x back)

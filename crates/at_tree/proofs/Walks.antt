@@ -7,15 +7,15 @@ use Rattle.at_tree.specs.Walk.{IsWalk}
 use Rattle.at_tree.proofs.Members.{none_in, in_here, in_there, in_cons, in_middle, parted, parted_push}
 use Rattle.at_tree.proofs.Paths.{reach_here, reach_step, reach_unmarked, reach_all, reach_in, child_from_entered}
 
--- the list once these classes are in it, one after another, each behind what it adds
+-- the list once these classes are in it, one after another, each after what it adds
 pub data Walks (tree : List (List ℕ)) (stop : List Bool) : List ℕ → List ℕ → List ℕ → Type 0 where
   done : {list : List ℕ} → Walks tree stop list [] list
   again : {list : List ℕ} {c : ℕ} {cs out : List ℕ} → Contains list c → Walks tree stop list cs out → Walks tree stop list (c ∷ cs) out
   first : {list : List ℕ} {c : ℕ} {cs out mid : List ℕ} → ¬ Contains list c → Walks tree stop list (entered tree stop c) mid → Walks tree stop (mid ++ c ∷ []) cs out → Walks tree stop list (c ∷ cs) out
 
--- each class stands behind what is entered from it
+-- each class stands after what is entered from it
 pub record IsOrdered (tree : List (List ℕ)) (stop : List Bool) (list : List ℕ) : Type 0 where
-  pub before : (front back : List ℕ) (d e : ℕ) → list ≡ front ++ d ∷ back → Contains (entered tree stop d) e → Contains front e
+  pub before : (prefix back : List ℕ) (d e : ℕ) → list ≡ prefix ++ d ∷ back → Contains (entered tree stop d) e → Contains prefix e
 
 module _ (tree : List (List ℕ)) (stop : List Bool) where
   -- what was in the list stays
@@ -58,10 +58,10 @@ module _ (tree : List (List ℕ)) (stop : List Bool) where
       let all : (e : ℕ) → Contains (entered tree stop c) e → Contains mid e = listed list (entered tree stop c) mid v in
       let m : IsOrdered tree stop mid = ordered list (entered tree stop c) mid v o in
       ordered (mid ++ c ∷ []) cs out w (record {
-        before = λ front back d e at h. ⊎_elim
+        before = λ prefix back d e at h. ⊎_elim
             (λ last. subst (λ xs. Contains xs e) last.0 (all e (subst (λ x. Contains (entered tree stop x) e) (sym last.1) h)))
-            (λ p. m.before front p.0 d e p.1 h)
-            (parted_push mid c front d back at);
+            (λ p. m.before prefix p.0 d e p.1 h)
+            (parted_push mid c prefix d back at);
       })
 
   -- what is reached from a class of an ordered list is in the list
@@ -74,8 +74,8 @@ module _ (tree : List (List ℕ)) (stop : List Bool) where
 
   module _ (t : IsTree tree) where
     -- a class isn't in the list once what is entered from it is
-    pub new_behind : (list mid : List ℕ) (c : ℕ) → ¬ Contains list c → Walks tree stop list (entered tree stop c) mid → ¬ Contains mid c
-    new_behind list mid c new v h =
+    pub new_after : (list mid : List ℕ) (c : ℕ) → ¬ Contains list c → Walks tree stop list (entered tree stop c) mid → ¬ Contains mid c
+    new_after list mid c new v h =
         ⊎_elim new (λ r. t.acyclic c r.0 (child_from_entered tree stop c r.0 r.1) (reach_unmarked tree stop r.0 c r.2)) (reached_from list (entered tree stop c) mid v c h)
 
     -- no class is added twice
@@ -84,12 +84,12 @@ module _ (tree : List (List ℕ)) (stop : List Bool) where
     once_each list (c ∷ cs) out (again seen w) o = once_each list cs out w o
     once_each list (c ∷ cs) out (first {mid = mid} new v w) o =
         once_each (mid ++ c ∷ []) cs out w (all_pairs_push (λ x y. x ≢ y) mid c (once_each list (entered tree stop c) mid v o)
-        (λ k d lt e. new_behind list mid c new v (subst (Contains mid) e (Contains-get_or mid k d lt))))
+        (λ k d lt e. new_after list mid c new v (subst (Contains mid) e (Contains-get_or mid k d lt))))
 
     -- the list of the walk from one class
     pub walk_from : (c : ℕ) (out : List ℕ) → c < length tree → Walks tree stop [] (c ∷ []) out → IsWalk tree stop c out
     walk_from c out lt w =
-        let o : IsOrdered tree stop out = ordered [] (c ∷ []) out w (record { before = λ front back d e at h. absurd (none_in d (subst (λ xs. Contains xs d) (sym at) (in_middle front d back))) }) in
+        let o : IsOrdered tree stop out = ordered [] (c ∷ []) out w (record { before = λ prefix back d e at h. absurd (none_in d (subst (λ xs. Contains xs d) (sym at) (in_middle prefix d back))) }) in
         let sound : (d : ℕ) → Contains out d → Reaches tree stop c d =
         λ d h. ⊎_elim
         (λ none. absurd (none_in d none))

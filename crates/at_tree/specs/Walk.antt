@@ -22,4 +22,4 @@ pub record IsWalk (tree : List (List ℕ)) (stop : List Bool) (c : ℕ) (list : 
   -- what is in the list is what is reached through no marked class
   pub reached : (d : ℕ) → Contains list d ↔ Reaches tree stop c d
   -- the direct subclasses of each class stand before it, where it isn't marked
-  pub subclasses_first : (front back : List ℕ) (d e : ℕ) → list ≡ front ++ d ∷ back → Contains (entered tree stop d) e → Contains front e
+  pub subclasses_first : (prefix back : List ℕ) (d e : ℕ) → list ≡ prefix ++ d ∷ back → Contains (entered tree stop d) e → Contains prefix e

@@ -18,7 +18,7 @@ use Rattle.at_value.specs.Fields.{number_of, bits_of, AreWithin, FitWord, FitWor
 use Rattle.at_value.specs.Packing.{IsBases, IsOp, heading_fields, row_fields, rows_fields, bases_fields, words_fields, words_of, HasWords}
 use Rattle.at_value.specs.Reading.{below, value_in_word}
 use Rattle.at_value.proofs.Words.{below_gives, word_exact, value_fits}
-use Rattle.at_value.specs.ReadingOps.{with_two, classes_in, classes_of_words, bases_at, heading_at, op_at}
+use Rattle.at_value.specs.ReadingOps.{with_two, classes_in, classes_of_words, bases_from, heading_at, op_at}
 
 -- One more number goes into the lowest bits: the word stays within the bits of all.
 pub word_grows : (width k word c : ℕ) → word < 2 ^ (width * k) → c < 2 ^ width → word * 2 ^ width + c < 2 ^ (width * suc k)
@@ -37,8 +37,8 @@ base_put width bases old i word c d e in_list small was here base =
     let more : suc (length bases - old) ≡ length bases - i = omega arith in
     let grown = word_grows width (length bases - old) word c small base in
     let was' : word ≡ number_of (row_fields width (drop (suc i) bases)) = rw e at was in
-    let front = drop-cons bases i d in_list' in
-    (rw more at grown, rw (front, ← was', here) refl)
+    let prefix = drop-cons bases i d in_list' in
+    (rw more at grown, rw (prefix, ← was', here) refl)
 
 -- a word of fewer numbers than fit into it has room for one more
 pub room_for_one : (width k most word : ℕ) → suc k ≤ most → width * most ≤ 64 → word < 2 ^ (width * k) → word < 2 ^ (64 - width)
@@ -49,24 +49,24 @@ room_for_one width k most word few fits small =
     let powers = pow_mono le in
     omega arith
 
--- the numbers in front are classes, and those behind them
-are_classes_in_front : (n : ℕ) (bases : List ℕ) → AreClasses bases → AreClasses (take n bases)
-are_classes_in_front zero bases h i = omega arith
-are_classes_in_front (suc n) [] h i = omega arith
-are_classes_in_front (suc n) (c ∷ cs) h zero = h 0
-are_classes_in_front (suc n) (c ∷ cs) h (suc i) = are_classes_in_front n cs (λ j. h (suc j)) i
+-- the numbers before it are classes, and those after them
+are_classes_before : (n : ℕ) (bases : List ℕ) → AreClasses bases → AreClasses (take n bases)
+are_classes_before zero bases h i = omega arith
+are_classes_before (suc n) [] h i = omega arith
+are_classes_before (suc n) (c ∷ cs) h zero = h 0
+are_classes_before (suc n) (c ∷ cs) h (suc i) = are_classes_before n cs (λ j. h (suc j)) i
 
-are_classes_behind : (n : ℕ) (bases : List ℕ) → AreClasses bases → AreClasses (drop n bases)
-are_classes_behind zero bases h = h
-are_classes_behind (suc n) [] h = h
-are_classes_behind (suc n) (c ∷ cs) h = are_classes_behind n cs (λ j. h (suc j))
+are_classes_after : (n : ℕ) (bases : List ℕ) → AreClasses bases → AreClasses (drop n bases)
+are_classes_after zero bases h = h
+are_classes_after (suc n) [] h = h
+are_classes_after (suc n) (c ∷ cs) h = are_classes_after n cs (λ j. h (suc j))
 
--- all are classes, where those in front are and those behind them
+-- all are classes, where those before it are and those after them
 pub are_classes_both : (n : ℕ) (bases : List ℕ) → AreClasses (take n bases) → AreClasses (drop n bases) → AreClasses bases
-are_classes_both zero bases front behind i = behind i
-are_classes_both (suc n) [] front behind i = behind i
-are_classes_both (suc n) (c ∷ cs) front behind zero = front 0
-are_classes_both (suc n) (c ∷ cs) front behind (suc i) = are_classes_both n cs (λ j. front (suc j)) behind i
+are_classes_both zero bases prefix after i = after i
+are_classes_both (suc n) [] prefix after i = after i
+are_classes_both (suc n) (c ∷ cs) prefix after zero = prefix 0
+are_classes_both (suc n) (c ∷ cs) prefix after (suc i) = are_classes_both n cs (λ j. prefix (suc j)) after i
 
 -- each number from there on is a class
 pub classes_grow : (bases : List ℕ) (old i c d : ℕ) → old ≡ suc i → c ≡ get_or bases i d → c < classes → old ≤ length bases
@@ -103,7 +103,7 @@ ok_of (Err e) ok full none = absurd (none full)
 
 -- a row of classes, read before the rows that are left
 joined_rows : (done row : List ℕ) (left : Option (List ℕ))
-    → option_map (λ more. (done ++ row) ++ more) left ≡ option_map (λ more. done ++ more) (with_two (λ front rest. front ++ rest) (Some row) left)
+    → option_map (λ more. (done ++ row) ++ more) left ≡ option_map (λ more. done ++ more) (with_two (λ prefix rest. prefix ++ rest) (Some row) left)
 joined_rows done row None = refl
 joined_rows done row (Some more) = ap Some (append_assoc done row more)
 
@@ -128,7 +128,7 @@ classes_in_length width (suc n) word row e = elim (below classes (word % 2 ^ wid
   ] refl e
 ] e
 
--- a row that is read goes behind the classes that were read
+-- a row that is read goes after the classes that were read
 pub row_read : (width each left here word : ℕ) (words all_words done all : List ℕ) (o : Option (List ℕ)) → here ≡ min left each → all_words ≡ word ∷ words
     → option_map (λ row. done ++ row) (classes_in width here word) ≡ Some all
     → option_map (λ more. done ++ more) (classes_of_words width each left all_words) ≡ o
@@ -136,9 +136,9 @@ pub row_read : (width each left here word : ℕ) (words all_words done all : Lis
 row_read width each left here word words all_words done all o is_here is_all grown was =
     let within : here ≤ left = rw is_here (min-le_left left each) in
     let left_over : left - here ≡ left - each = rw is_here (less_min left each) in
-    let was' : option_map (λ more. done ++ more) (with_two (λ front rest. front ++ rest) (classes_in width here word) (classes_of_words width each (left - each) words)) ≡ o = rw is_here (rw is_all at was) in
+    let was' : option_map (λ more. done ++ more) (with_two (λ prefix rest. prefix ++ rest) (classes_in width here word) (classes_of_words width each (left - each) words)) ≡ o = rw is_here (rw is_all at was) in
     elim (classes_in width here word) as (λ read. classes_in width here word ≡ read → option_map (λ row. done ++ row) read ≡ Some all
-    → option_map (λ more. done ++ more) (with_two (λ front rest. front ++ rest) read (classes_of_words width each (left - each) words)) ≡ o
+    → option_map (λ more. done ++ more) (with_two (λ prefix rest. prefix ++ rest) read (classes_of_words width each (left - each) words)) ≡ o
     → (length all + (left - here) ≡ length done + left) × (option_map (λ more. all ++ more) (classes_of_words width each (left - here) words) ≡ o)) [
       | Some row ↦ λ read grown was.
           let same : done ++ row ≡ all = cc in
@@ -148,7 +148,7 @@ row_read width each left here word words all_words done all o is_here is_all gro
     ] refl grown was'
 
 -- as many bases as there may be
-pub bases_at_most : (count : ℕ) (words : List ℕ) → count ≤ most_bases → bases_at count words ≡ classes_of_words base_bits bases_a_word count words
+pub bases_at_most : (count : ℕ) (words : List ℕ) → count ≤ most_bases → bases_from count words ≡ classes_of_words base_bits bases_a_word count words
 bases_at_most count words h = let test = at_most count most_bases h in rw test refl
 
 -- the fields of word 0 are read back
@@ -183,33 +183,33 @@ rows_back : (width each : ℕ) → classes ≤ 2 ^ width → (words : ℕ) (base
 rows_back width each wide zero [] h fits = refl
 rows_back width each wide zero (c ∷ cs) h fits = absurd (omega arith)
 rows_back width each wide (suc words) bases h fits =
-    let front : classes_in width (length (take each bases)) (number_of (row_fields width (take each bases))) ≡ Some (take each bases) = classes_back width wide (take each bases) (are_classes_in_front each bases h) in
+    let prefix : classes_in width (length (take each bases)) (number_of (row_fields width (take each bases))) ≡ Some (take each bases) = classes_back width wide (take each bases) (are_classes_before each bases h) in
     let here : min (length bases) each ≡ length (take each bases) = sym (length-take each bases ∙ min_comm each (length bases)) in
     let left : length bases - each ≡ length (drop each bases) = sym (length-drop each bases) in
     let fits' : length (drop each bases) ≤ words * each = let left' = left in omega arith in
-    let behind = rows_back width each wide words (drop each bases) (are_classes_behind each bases h) fits' in
-    rw (here, front, left, behind) (ap Some (take-append-drop each bases))
+    let after = rows_back width each wide words (drop each bases) (are_classes_after each bases h) fits' in
+    rw (here, prefix, left, after) (ap Some (take-append-drop each bases))
 
-bases_back : (bases : List ℕ) → IsBases bases → bases_at (length bases) (map number_of (bases_fields bases)) ≡ Some bases
+bases_back : (bases : List ℕ) → IsBases bases → bases_from (length bases) (map number_of (bases_fields bases)) ≡ Some bases
 bases_back bases h =
     bases_at_most (length bases) (map number_of (bases_fields bases)) h.0 ∙ rows_back base_bits bases_a_word (omega arith) bases_words bases h.1 (omega (arith, h.0))
 
 value_back : (v : value.Value) → IsValue v → value_in_word (word_of v) ≡ Some v
 value_back v h = (word_exact (word_of v) v).1 (h, refl)
 
--- the words behind word 0
-abbrev pub behind : List ℕ → List ℕ
-behind words = get_or words 1 0 ∷ get_or words 2 0 ∷ get_or words 3 0 ∷ []
+-- the words after word 0
+abbrev pub later_words : List ℕ → List ℕ
+later_words words = get_or words 1 0 ∷ get_or words 2 0 ∷ get_or words 3 0 ∷ []
 
 -- the operation that the words are read as, before they are compared with its words
 abbrev pub op_in : List ℕ → Option op.Op
-op_in words = op_at (heading_at (get_or words 0 0)) (behind words)
+op_in words = op_at (heading_at (get_or words 0 0)) (later_words words)
 
 -- what is read from a word 0 with these fields
 head_read : (k s t n : ℕ) (words : List ℕ) (o : op.Op) → k < 2 ^ operation_bits → s < 2 ^ subject_bits → t < 2 ^ second_bits → n < 2 ^ attribute_bits
-    → op_at (record { kind = k; subject = s; second = t; name = n }) (behind (number_of (heading_fields k s t n) ∷ words)) ≡ Some o → op_in (number_of (heading_fields k s t n) ∷ words) ≡ Some o
+    → op_at (record { kind = k; subject = s; second = t; name = n }) (later_words (number_of (heading_fields k s t n) ∷ words)) ≡ Some o → op_in (number_of (heading_fields k s t n) ∷ words) ≡ Some o
 head_read k s t n words o k_fits s_fits t_fits n_fits read =
-    ap (λ h. op_at h (behind (number_of (heading_fields k s t n) ∷ words))) (head_back k s t n k_fits s_fits t_fits n_fits) ∙ read
+    ap (λ h. op_at h (later_words (number_of (heading_fields k s t n) ∷ words))) (head_back k s t n k_fits s_fits t_fits n_fits) ∙ read
 
 -- an operation's words are read as that operation
 op_back : (o : op.Op) → IsOp o → op_in (words_of o) ≡ Some o
@@ -282,11 +282,11 @@ row_bits width (c ∷ cs) = let rest = row_bits width cs in omega arith
 rows_fit : (width each : ℕ) → classes ≤ 2 ^ width → width * each ≤ 64 → (words : ℕ) (bases : List ℕ) → AreClasses bases → FitWords (rows_fields width each words bases)
 rows_fit width each wide room zero bases h = tt
 rows_fit width each wide room (suc words) bases h =
-    let front = take each bases in
-    let few : length front ≤ each = rw (length-take each bases) (min-le_left each (length bases)) in
-    let bits : bits_of (row_fields width front) ≤ 64 = rw (row_bits width front) (le_trans (mul-le-mul_left width few) room) in
-    let within = row_within width wide front (are_classes_in_front each bases h) in
-    ((within, bits), rows_fit width each wide room words (drop each bases) (are_classes_behind each bases h))
+    let prefix = take each bases in
+    let few : length prefix ≤ each = rw (length-take each bases) (min-le_left each (length bases)) in
+    let bits : bits_of (row_fields width prefix) ≤ 64 = rw (row_bits width prefix) (le_trans (mul-le-mul_left width few) room) in
+    let within = row_within width wide prefix (are_classes_before each bases h) in
+    ((within, bits), rows_fit width each wide room words (drop each bases) (are_classes_after each bases h))
 
 bases_fit : (bases : List ℕ) → IsBases bases → FitWords (bases_fields bases)
 bases_fit bases h = rows_fit base_bits bases_a_word (omega arith) (omega arith) bases_words bases h.1

@@ -8,7 +8,7 @@ use Rattle.std.proofs.Math.Facts.{sfits_to_z}
 use Rattle.std.proofs.lemmas.Nat.{shr_high, mod_low, div-add-mod'}
 use Rattle.at_value.specs.declared.value.Value as value
 use Rattle.at_value.specs.declared.value.Value.TheVariants as values
-use Rattle.at_value.specs.Parts.{Parts, part, held, IsPart}
+use Rattle.at_value.specs.Parts.{PropertyParts, part, held, IsPart}
 use Rattle.at_value.specs.Properties.{held-part}
 use Rattle.at_value.specs.Widths.{names, objects, classes, functions, kind_bits, integer_bits, part_bits}
 use Rattle.at_value.specs.Fields.{FitWord}
@@ -62,7 +62,7 @@ bits_within (pos n) h = grind arith
 bits_within (negsuc n) h = omega arith
 
 -- the parts of a property, in one number and back
-parts_back : (p : Parts) → IsPart p.get × IsPart p.set × IsPart p.del → parts_at ((held p.del * 2 ^ part_bits + held p.set) * 2 ^ part_bits + held p.get) ≡ Some p
+parts_back : (p : PropertyParts) → IsPart p.get × IsPart p.set × IsPart p.del → parts_at ((held p.del * 2 ^ part_bits + held p.set) * 2 ^ part_bits + held p.get) ≡ Some p
 parts_back p h =
     let g = held_within p.get h.0 in
     let s = held_within p.set h.1 in
@@ -75,9 +75,9 @@ parts_back p h =
     let high' = shr_high (held p.del) part_bits (held p.set) set_small in
     rw (low, high, low', high', (below_tells _ _ g).0, (below_tells _ _ s).0, (below_tells _ _ d).0, part-held p.get, part-held p.set, part-held p.del) refl
 
-parts_made : (n : ℕ) (p : Parts) → parts_at n ≡ Some p → (IsPart p.get × IsPart p.set × IsPart p.del) × ((held p.del * 2 ^ part_bits + held p.set) * 2 ^ part_bits + held p.get ≡ n)
+parts_made : (n : ℕ) (p : PropertyParts) → parts_at n ≡ Some p → (IsPart p.get × IsPart p.set × IsPart p.del) × ((held p.del * 2 ^ part_bits + held p.set) * 2 ^ part_bits + held p.get ≡ n)
 parts_made n p e =
-    let P : Parts → Type 0 = λ q. (IsPart q.get × IsPart q.set × IsPart q.del) × ((held q.del * 2 ^ part_bits + held q.set) * 2 ^ part_bits + held q.get ≡ n) in
+    let P : PropertyParts → Type 0 = λ q. (IsPart q.get × IsPart q.set × IsPart q.del) × ((held q.del * 2 ^ part_bits + held q.set) * 2 ^ part_bits + held q.get ≡ n) in
     chosen _ _ None p e
     (λ all made.
     let two = both _ _ all in
@@ -85,7 +85,7 @@ parts_made n p e =
     let get_part = IsPart-part (n % 2 ^ part_bits) (below_true _ _ one.0) in
     let set_part = IsPart-part (n / 2 ^ part_bits % 2 ^ part_bits) (below_true _ _ one.1) in
     let del_part = IsPart-part (n / 2 ^ part_bits / 2 ^ part_bits) (below_true _ _ two.1) in
-    let read : Parts = record { get = part (n % 2 ^ part_bits); set = part (n / 2 ^ part_bits % 2 ^ part_bits); del = part (n / 2 ^ part_bits / 2 ^ part_bits) } in
+    let read : PropertyParts = record { get = part (n % 2 ^ part_bits); set = part (n / 2 ^ part_bits % 2 ^ part_bits); del = part (n / 2 ^ part_bits / 2 ^ part_bits) } in
     let same : read ≡ p = cc in
     let number : (held read.del * 2 ^ part_bits + held read.set) * 2 ^ part_bits + held read.get ≡ n =
     rw (held-part (n % 2 ^ part_bits), held-part (n / 2 ^ part_bits % 2 ^ part_bits), held-part (n / 2 ^ part_bits / 2 ^ part_bits), div-add-mod' (n / 2 ^ part_bits) (2 ^ part_bits)) (div-add-mod' n (2 ^ part_bits))

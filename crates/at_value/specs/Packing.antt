@@ -54,7 +54,7 @@ abbrev pub rows_fields : (width each words : ℕ) → List ℕ → List (List Fi
 rows_fields width each zero numbers = []
 rows_fields width each (suc words) numbers = row_fields width (take each numbers) ∷ rows_fields width each words (drop each numbers)
 
--- the fields of the words behind word 0 that have bases
+-- the fields of the words after word 0 that have bases
 abbrev pub bases_fields : List ℕ → List (List Field)
 bases_fields bases = rows_fields base_bits bases_a_word bases_words bases
 

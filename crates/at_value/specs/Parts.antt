@@ -2,7 +2,7 @@
 use Rattle.std.specs.Prelude.{ℕ, zero, suc, ◌<◌, Option, Some, None}
 use Rattle.at_value.specs.Widths.{functions}
 
-pub record Parts : Type 0 where
+pub record PropertyParts : Type 0 where
   pub get : Option ℕ
   pub set : Option ℕ
   pub del : Option ℕ

@@ -3,9 +3,9 @@ use Rattle.std.specs.Prelude.{ℕ, zero, suc, ◌≤◌, ◌≡◌, refl}
 use Rattle.std.proofs.Common.{◌∙◌, ap}
 use Rattle.at_value.specs.declared.value.Prop.TheInside.{Inside}
 use Rattle.at_value.specs.Widths.{functions}
-use Rattle.at_value.specs.Parts.{Parts, part, held}
+use Rattle.at_value.specs.Parts.{PropertyParts, part, held}
 
-abbrev pub parts_of : Inside → Parts
+abbrev pub parts_of : Inside → PropertyParts
 parts_of p = record { get = part p.get; set = part p.set; del = part p.del }
 
 -- each part is none or a function
@@ -14,7 +14,7 @@ pub record AreParts (p : Inside) : Type 0 where
   pub set : p.set ≤ functions
   pub del : p.del ≤ functions
 
-abbrev pub inside_of : Parts → Inside
+abbrev pub inside_of : PropertyParts → Inside
 inside_of p = record { get = held p.get; set = held p.set; del = held p.del }
 
 pub held-part : (n : ℕ) → held (part n) ≡ n

@@ -5,7 +5,7 @@ use Rattle.std.specs.Int.{w32, cast_unsigned, cast_signed}
 use Rattle.at_value.specs.declared.value.Value as value
 use Rattle.at_value.specs.declared.value.Value.TheVariants as values
 use Rattle.at_value.specs.Widths.{names, objects, classes, functions, kind_bits, integer_bits, part_bits}
-use Rattle.at_value.specs.Parts.{Parts, part}
+use Rattle.at_value.specs.Parts.{PropertyParts, part}
 
 -- the bits of an integer, and the number of a text, a function, a class or an object; each is 0 for any other value
 abbrev pub integer_in : value.Value → ℕ
@@ -26,7 +26,7 @@ abbrev pub below : ℕ → ℕ → Option ℕ
 below bound n = if nat_lt n bound then Some n else None
 
 -- a property from its three parts in one number
-abbrev pub parts_at : ℕ → Option Parts
+abbrev pub parts_at : ℕ → Option PropertyParts
 parts_at n =
     if nat_lt (n % 2 ^ part_bits) (suc functions) && nat_lt (n / 2 ^ part_bits % 2 ^ part_bits) (suc functions) && nat_lt (n / 2 ^ part_bits / 2 ^ part_bits) (suc functions)
     then Some (record { get = part (n % 2 ^ part_bits); set = part (n / 2 ^ part_bits % 2 ^ part_bits); del = part (n / 2 ^ part_bits / 2 ^ part_bits) })

@@ -29,8 +29,8 @@ classes_of_words width each count (word ∷ words) =
     with_two (λ row rest. row ++ rest) (classes_in width (min count each) word) (classes_of_words width each (count - each) words)
 
 -- so many bases in these words
-abbrev pub bases_at : ℕ → List ℕ → Option (List ℕ)
-bases_at count words = if nat_le count most_bases then classes_of_words base_bits bases_a_word count words else None
+abbrev pub bases_from : ℕ → List ℕ → Option (List ℕ)
+bases_from count words = if nat_le count most_bases then classes_of_words base_bits bases_a_word count words else None
 
 -- the fields of word 0
 abbrev pub heading_at : ℕ → Heading
@@ -41,13 +41,13 @@ heading_at word = record {
   name = word / 2 ^ operation_bits / 2 ^ subject_bits / 2 ^ second_bits % 2 ^ attribute_bits;
 }
 
--- the operation with this word 0, and these words behind it
+-- the operation with this word 0, and these words after it
 abbrev pub op_at : Heading → List ℕ → Option op.Op
 op_at h words =
-    if h.kind == 1 then with_two ops.NewClass (below classes h.subject) (bases_at h.second words)
+    if h.kind == 1 then with_two ops.NewClass (below classes h.subject) (bases_from h.second words)
     else if h.kind == 2 then with_three ops.TypeSet (below classes h.subject) (below names h.name) (value_in_word (slice_index words 0))
     else if h.kind == 3 then with_two ops.TypeDel (below classes h.subject) (below names h.name)
-    else if h.kind == 4 then with_two ops.SetBases (below classes h.subject) (bases_at h.second words)
+    else if h.kind == 4 then with_two ops.SetBases (below classes h.subject) (bases_from h.second words)
     else if h.kind == 5 then option_map ops.New (below classes h.subject)
     else if h.kind == 6 then with_three ops.Set (below objects h.subject) (below names h.name) (value_in_word (slice_index words 0))
     else if h.kind == 7 then with_two ops.Del (below objects h.subject) (below names h.name)

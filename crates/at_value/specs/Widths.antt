@@ -53,7 +53,7 @@ second_bits = 16
 abbrev pub attribute_bits : ℕ
 attribute_bits = 16
 
--- in the words behind it: each base, how many bases stand in one word, and how many words there are for bases
+-- in the words after it: each base, how many bases stand in one word, and how many words there are for bases
 abbrev pub base_bits : ℕ
 base_bits = 8
 

@@ -28,7 +28,7 @@ pub enum Op {
     Get(Obj, Name),
     /// `C.x`: reads an attribute of a class.
     TypeGet(Class, Name),
-    /// `super(K, o).x`: reads an attribute behind class K in the order of o's class.
+    /// `super(K, o).x`: reads an attribute after class K in the order of o's class.
     Super(Class, Obj, Name),
     /// The implicit look-up of a special method of an object, which passes over the object's own dictionary.
     Special(Obj, Name),

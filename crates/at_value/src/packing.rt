@@ -5,7 +5,7 @@ ghost use Rattle.at_value.specs.Classes.{AreClasses};
 ghost use Rattle.at_value.specs.Widths.{most_bases, operation_bits, base_bits, bases_a_word};
 ghost use Rattle.at_value.specs.Fields.{number_of, FitWords};
 ghost use Rattle.at_value.specs.Packing.{IsClass, IsBases, IsOp, heading_fields, row_fields, bases_fields, words_fields, words_of, HasWords};
-ghost use Rattle.at_value.specs.ReadingOps.{classes_in, bases_at, heading_at, op_at};
+ghost use Rattle.at_value.specs.ReadingOps.{classes_in, bases_from, heading_at, op_at};
 
 use crate::bits::{joined, split};
 use crate::list::Bases;
@@ -127,7 +127,7 @@ fn words_of_bases(bases: &[Class]) -> [u64; 3]
     [word_of_row(first), word_of_row(second), word_of_row(third)]
 }
 
-/// Puts so many bases from a word behind those that are there. It is none exactly where one of them is no class.
+/// Puts so many bases from a word after those that are there. It is none exactly where one of them is no class.
 fn read_row(bases: &mut Bases, count: usize, word: u64) -> Option<()>
     requires { length bases.old + count ≤ most_bases }
     ensures some { OnSome result (option_map (λ row. bases.old ++ row) (classes_in base_bits count word) ≡ Some bases.new) }
@@ -144,7 +144,7 @@ fn read_row(bases: &mut Bases, count: usize, word: u64) -> Option<()>
 
 /// So many bases in these words, and none exactly where they are more than eight, or one of them is no class.
 fn bases_of(count: u64, words: &[u64; 3]) -> Option<Bases>
-    ensures { result ≡ bases_at count words.now }
+    ensures { result ≡ bases_from count words.now }
 {
     let mut left = count as usize;
     if left > Bases::MOST {
@@ -160,7 +160,7 @@ fn bases_of(count: u64, words: &[u64; 3]) -> Option<Bases>
 }
 
 /// The four words of an operation: its kind, the class or object that it is done to, a second class, object or number of
-/// bases, and its name in word 0; its value in word 1, or its bases in the words behind word 0. What an operation
+/// bases, and its name in word 0; its value in word 1, or its bases in the words after word 0. What an operation
 /// doesn't have is 0. The layout is this project's own, and stands in `docs/DATA_MODEL.md`, "Words".
 pub fn pack(op: &Op) -> [u64; 4]
     ensures words { result ≡ words_of op.now }
@@ -204,7 +204,7 @@ fn packed_bases(kind: u64, c: Class, bases: &Bases) -> [u64; 4]
     [heading, words[0], words[1], words[2]]
 }
 
-/// The operation with this heading and these words behind it, whatever the fields have that it doesn't use. It is none
+/// The operation with this heading and these words after it, whatever the fields have that it doesn't use. It is none
 /// exactly where the kind is none of the fifteen, a number is out of its range, there are more than eight bases, or the
 /// word of the value is no value's.
 fn read_op(heading: Heading, words: &[u64; 3]) -> Option<Op>

@@ -20,9 +20,9 @@ pub struct Prop {
 }
 
 impl Model for Prop {
-    ghost use Rattle.at_value.specs.Parts.{Parts};
+    ghost use Rattle.at_value.specs.Parts.{PropertyParts};
 
-    ghost Value = { Parts };
+    ghost Value = { PropertyParts };
 
     ghost use Rattle.at_value.specs.Properties.{parts_of, inside_of, AreParts, inside_of-parts_of};
 

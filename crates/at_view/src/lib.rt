@@ -8,7 +8,7 @@ use std::collections::LinkedList;
 pub struct View {
     /// The view's number, which no other view has, not even a spent one.
     pub number: u64,
-    /// The front of the history that it has seen, the first write first.
+    /// The prefix of the history that it has seen, the first write first.
     pub seen: LinkedList<Op>,
     /// The places of the writes that it made itself, or that a view made which it has taken in; places count from 1.
     pub own: LinkedList<u64>,

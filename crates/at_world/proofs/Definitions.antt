@@ -15,7 +15,7 @@ use Rattle.at_model.specs.World.{World, Map, row_of, order_in, order_of, opening
 use Rattle.at_model.specs.Attributes.{Outcome}
 use Rattle.at_model.specs.Step.{with_names, with_class, unless_unordered, if_ordered}
 use Rattle.at_model.specs.StoredOrders.{AreOrders}
-use Rattle.at_world.specs.Plain.{State, lists_of, IsKept}
+use Rattle.at_world.specs.Plain.{PlainState, lists_of, IsCoherent}
 use Rattle.at_model.proofs.Orders.{order_members_made, made_below}
 use Rattle.at_model.proofs.StoredOrders.{defined_order, AreOrders-defined, AreOrders-same_bases, same_bases-own, first_unordered-defined, first_unordered-undefined}
 
@@ -29,9 +29,9 @@ gathered_order classes orders lists c n bases items are free below made is_c are
 
 -- the new class and its order are kept beside the others
 pub kept_defined : (classes : List (Option ClassRow)) (orders : List (SmallVec ℕ)) (objects : List Object) (dicts : List Map) (c i : ℕ) (bases : List ℕ) (own : Map) (order : SmallVec ℕ)
-    → IsKept classes (lists_of orders) objects dicts → row_of classes c ≡ None → c < widths.classes
+    → IsCoherent classes (lists_of orders) objects dicts → row_of classes c ≡ None → c < widths.classes
     → order_in (set classes c (Some (record { bases = bases; own = [] }))) c ≡ Some order.items → i ≡ c → own ≡ []
-    → IsKept (set classes i (Some (record { bases = bases; own = own }))) (lists_of (set orders i order)) objects dicts
+    → IsCoherent (set classes i (Some (record { bases = bases; own = own }))) (lists_of (set orders i order)) objects dicts
 kept_defined classes orders objects dicts c i bases own order kept free below is at empty =
     rw (at, empty, map-set) (record {
       numbered = length-set classes c (Some (record { bases = bases; own = [] })) ∙ kept.numbered;
@@ -55,26 +55,26 @@ pub defined_state : (classes : List (Option ClassRow)) (orders : List (List ℕ)
     → AreOrders classes orders → row_of classes c ≡ None → (let w : World = record { classes = classes; objects = objects; dicts = dicts } in
     order_of (with_class w c bases) c ≡ Some order → i ≡ c → own ≡ []
     → (replies.Done ≡ (if_ordered w (with_class w c bases)).reply)
-    × (let now : State = record { world = record { classes = set classes i (Some (record { bases = bases; own = own })); objects = objects; dicts = dicts }; place = place } in
+    × (let now : PlainState = record { world = record { classes = set classes i (Some (record { bases = bases; own = own })); objects = objects; dicts = dicts }; place = place } in
     now ≡ record { world = (if_ordered w (with_class w c bases)).world; place = place }))
 defined_state classes orders objects dicts place c i bases order own are free is at empty =
     let w : World = record { classes = classes; objects = objects; dicts = dicts } in
     let outcome = made_outcome w orders c bases order are free is in
-    let state : World → State = λ w. record { world = w; place = place } in
+    let state : World → PlainState = λ w. record { world = w; place = place } in
     (ap (λ (o : Outcome). o.reply) (sym outcome), rw (at, empty) (ap (λ (o : Outcome). state o.world) (sym outcome)))
 
-pub refused_state : (s : State) (orders : List (List ℕ)) (c : ℕ) (bases : List ℕ) → AreOrders s.world.classes orders → row_of s.world.classes c ≡ None → c < length s.world.classes → order_of (with_class s.world c bases) c ≡ None
+pub refused_state : (s : PlainState) (orders : List (List ℕ)) (c : ℕ) (bases : List ℕ) → AreOrders s.world.classes orders → row_of s.world.classes c ≡ None → c < length s.world.classes → order_of (with_class s.world c bases) c ≡ None
     → (replies.NoOrder c ≡ (if_ordered s.world (with_class s.world c bases)).reply) × (s ≡ record { world = (if_ordered s.world (with_class s.world c bases)).world; place = s.place })
 refused_state s orders c bases are free below none =
     let outcome = refused_outcome s.world orders c bases are free below none in
-    let state : World → State = λ w. record { world = w; place = s.place } in
+    let state : World → PlainState = λ w. record { world = w; place = s.place } in
     (ap (λ (o : Outcome). o.reply) (sym outcome), ap (λ (o : Outcome). state o.world) (sym outcome))
 
 -- names of a class change no order
 pub kept_names : (classes changed : List (Option ClassRow)) (orders : List (List ℕ)) (objects : List Object) (dicts : List Map) (c : ℕ) (names : Map)
-    → IsKept classes orders objects dicts → changed ≡ with_names classes c (row_of classes c) names → IsKept changed orders objects dicts
+    → IsCoherent classes orders objects dicts → changed ≡ with_names classes c (row_of classes c) names → IsCoherent changed orders objects dicts
 kept_names classes changed orders objects dicts c names kept is =
-    rw is (elim (row_of classes c) as (λ row. row_of classes c ≡ row → IsKept (with_names classes c row names) orders objects dicts) [
+    rw is (elim (row_of classes c) as (λ row. row_of classes c ≡ row → IsCoherent (with_names classes c row names) orders objects dicts) [
       | None ↦ λ _. kept
       | Some row ↦ λ at. record {
         numbered = length-set classes c (Some (record row { own = names })) ∙ kept.numbered;
@@ -96,7 +96,7 @@ opening_orders zero made = refl
 opening_orders (suc c) made = absurd (false≢true (sym (ap is_some (none_made (widths.classes - 1) c)) ∙ made))
 
 pub kept_opening : (classes : List (Option ClassRow)) (orders : List (List ℕ)) (objects : List Object) (dicts : List Map)
-    → classes ≡ opening.classes → orders ≡ (0 ∷ []) ∷ replicate (widths.classes - 1) [] → objects ≡ [] → dicts ≡ [] → IsKept classes orders objects dicts
+    → classes ≡ opening.classes → orders ≡ (0 ∷ []) ∷ replicate (widths.classes - 1) [] → objects ≡ [] → dicts ≡ [] → IsCoherent classes orders objects dicts
 kept_opening classes orders objects dicts are_classes are_orders no_objects no_dicts =
     rw (are_classes, are_orders, no_objects, no_dicts) (record {
       numbered = refl;

@@ -9,7 +9,7 @@ use Rattle.at_model.specs.declared.rows.Object.{Object}
 use Rattle.at_model.specs.World.{World, Map, row_of, own_of, order_of}
 use Rattle.at_model.specs.Attributes.{Outcome}
 use Rattle.at_model.specs.Step.{is_made, are_made, is_empty, first_unordered_from, first_unordered, unless_unordered, if_ordered, with_bases}
-use Rattle.at_world.specs.Plain.{State, IsKept, order_or_none}
+use Rattle.at_world.specs.Plain.{PlainState, IsCoherent, order_or_none}
 use Rattle.at_world.specs.Rebasing.{rebased, AreNewOrders, first_empty}
 use Rattle.at_model.proofs.StoredOrders.{ordered-from_none}
 use Rattle.at_world.proofs.Rebasing.{made-rebased}
@@ -57,8 +57,8 @@ order_or_none-same (c ∷ cs) order is = cc
 
 -- the new classes and orders are kept, where no order is missing
 pub kept_rebased : (classes : List (Option ClassRow)) (was orders : List (List ℕ)) (objects : List Object) (dicts : List Map) (c : ℕ) (bases : List ℕ)
-    → IsKept classes was objects dicts → IsTrue (is_some (row_of classes c)) → AreNewOrders (rebased classes c bases) orders → length orders ≡ widths.classes
-    → first_empty 0 classes orders ≡ None → IsKept (rebased classes c bases) orders objects dicts
+    → IsCoherent classes was objects dicts → IsTrue (is_some (row_of classes c)) → AreNewOrders (rebased classes c bases) orders → length orders ≡ widths.classes
+    → first_empty 0 classes orders ≡ None → IsCoherent (rebased classes c bases) orders objects dicts
 kept_rebased classes was orders objects dicts c bases kept made are long none =
     let w : World = record { classes = classes; objects = objects; dicts = dicts } in
     let all = ordered-from_none (with_bases w c bases) (rebased_first w c bases orders made are ∙ none) in
@@ -73,22 +73,22 @@ kept_rebased classes was orders objects dicts c bases kept made are long none =
     }
 
 -- a class without an order refuses the change
-pub rebase_refused : (s : State) (c k : ℕ) (bases : List ℕ) (orders : List (List ℕ)) → IsTrue (is_some (row_of s.world.classes c))
+pub rebase_refused : (s : PlainState) (c k : ℕ) (bases : List ℕ) (orders : List (List ℕ)) → IsTrue (is_some (row_of s.world.classes c))
     → AreNewOrders (rebased s.world.classes c bases) orders → first_empty 0 s.world.classes orders ≡ Some k
     → (replies.NoOrder k ≡ (if_ordered s.world (with_bases s.world c bases)).reply)
     × (s ≡ record { world = (if_ordered s.world (with_bases s.world c bases)).world; place = s.place })
 rebase_refused s c k bases orders made are first =
     let outcome = ap (unless_unordered s.world (with_bases s.world c bases)) (rebased_first s.world c bases orders made are ∙ first) in
-    let state : World → State = λ w. record { world = w; place = s.place } in
+    let state : World → PlainState = λ w. record { world = w; place = s.place } in
     (ap (λ (o : Outcome). o.reply) (sym outcome), ap (λ (o : Outcome). state o.world) (sym outcome))
 
 -- where each class has an order the change is made
-pub rebase_done : (s : State) (c : ℕ) (bases : List ℕ) (orders : List (List ℕ)) → IsTrue (is_some (row_of s.world.classes c))
+pub rebase_done : (s : PlainState) (c : ℕ) (bases : List ℕ) (orders : List (List ℕ)) → IsTrue (is_some (row_of s.world.classes c))
     → AreNewOrders (rebased s.world.classes c bases) orders → first_empty 0 s.world.classes orders ≡ None
     → (replies.Done ≡ (if_ordered s.world (with_bases s.world c bases)).reply)
-    × (let now : State = record { world = with_bases s.world c bases; place = s.place } in
+    × (let now : PlainState = record { world = with_bases s.world c bases; place = s.place } in
     now ≡ record { world = (if_ordered s.world (with_bases s.world c bases)).world; place = s.place })
 rebase_done s c bases orders made are first =
     let outcome = ap (unless_unordered s.world (with_bases s.world c bases)) (rebased_first s.world c bases orders made are ∙ first) in
-    let state : World → State = λ w. record { world = w; place = s.place } in
+    let state : World → PlainState = λ w. record { world = w; place = s.place } in
     (ap (λ (o : Outcome). o.reply) (sym outcome), ap (λ (o : Outcome). state o.world) (sym outcome))

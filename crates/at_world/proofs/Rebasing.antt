@@ -8,8 +8,8 @@ use Rattle.at_c3.specs.Laws.{IsSubsequence}
 use Rattle.at_c3.proofs.NumberLemmas.{has}
 use Rattle.at_c3.proofs.RunLemmas.{prefixed-some}
 use Rattle.at_model.specs.declared.rows.ClassRow.{ClassRow}
-use Rattle.at_model.specs.World.{World, row_of, own_of, order_before, all_orders, joined, order_of_row, order_within, order_in}
-use Rattle.at_model.specs.Step.{in_order, is_empty}
+use Rattle.at_model.specs.World.{World, row_of, own_of, order_before, all_orders, merged_order, order_of_row, order_within, order_in}
+use Rattle.at_model.specs.Step.{is_in_order, is_empty}
 use Rattle.at_model.specs.StoredOrders.{AreOrders}
 use Rattle.at_world.specs.Plain.{order_or_none, order_by}
 use Rattle.at_world.specs.Rebasing.{rebased, IsNewOrder, AreNewOrders, AreRenewed, due_row}
@@ -79,7 +79,7 @@ pub order_by-right : (changed : List (Option ClassRow)) (orders : List (List ℕ
 order_by-right changed orders d row at each =
     let w : World = record { classes = changed; objects = []; dicts = [] } in
     orders_are_merges w d ∙ ap (order_of_row (order_in changed) d) at
-    ∙ ap (λ rs. joined d row.bases (all_orders rs)) (map_agree_on (order_in changed) (λ b. order_or_none (get_or orders b [])) row.bases each)
+    ∙ ap (λ rs. merged_order d row.bases (all_orders rs)) (map_agree_on (order_in changed) (λ b. order_or_none (get_or orders b [])) row.bases each)
 
 all_there : (orders : List (List ℕ)) (bases : List ℕ) → list_any (λ b. is_empty (get_or orders b [])) bases ≡ false
     → all_orders (map (λ b. order_or_none (get_or orders b [])) bases) ≡ Some (map (λ b. get_or orders b []) bases)
@@ -101,38 +101,38 @@ one_missing orders (b ∷ bases) some =
 
 -- what the lists of the bases give, where one of them is empty, where they have no merge, and where they have one
 pub order_by-missing : (orders : List (List ℕ)) (c : ℕ) (bases : List ℕ) → list_any (λ b. is_empty (get_or orders b [])) bases ≡ true → order_by orders c bases ≡ None
-order_by-missing orders c bases some = ap (joined c bases) (one_missing orders bases some)
+order_by-missing orders c bases some = ap (merged_order c bases) (one_missing orders bases some)
 
 pub order_by-none : (orders : List (List ℕ)) (c : ℕ) (bases : List ℕ) → list_any (λ b. is_empty (get_or orders b [])) bases ≡ false
     → order_of_lists c bases (map (λ b. get_or orders b []) bases) ≡ None → order_by orders c bases ≡ None
-order_by-none orders c bases all none = ap (joined c bases) (all_there orders bases all) ∙ none
+order_by-none orders c bases all none = ap (merged_order c bases) (all_there orders bases all) ∙ none
 
 pub order_by-some : (orders : List (List ℕ)) (c : ℕ) (bases order : List ℕ) → list_any (λ b. is_empty (get_or orders b [])) bases ≡ false
     → order_of_lists c bases (map (λ b. get_or orders b []) bases) ≡ Some order → order_or_none order ≡ order_by orders c bases
 order_by-some orders c bases order all is =
     let lists = map (λ b. get_or orders b []) bases in
     let begins = prefixed-some (c ∷ []) (merge_of (lists ++ bases ∷ [])) order is in
-    ap order_or_none begins.2 ∙ ap (λ o. Some o) (sym begins.2) ∙ sym (ap (joined c bases) (all_there orders bases all) ∙ is)
+    ap order_or_none begins.2 ∙ ap (λ o. Some o) (sym begins.2) ∙ sym (ap (merged_order c bases) (all_there orders bases all) ∙ is)
 
 -- The rounds
 
 apart_base : (classes : List (Option ClassRow)) (was : List (List ℕ)) (c b : ℕ) (bases : List ℕ) → AreOrders classes was
-    → list_all (λ x. is_some (row_of classes x)) bases ≡ true → list_any (λ x. in_order c (order_in classes x)) bases ≡ false → has b bases ≡ true
+    → list_all (λ x. is_some (row_of classes x)) bases ≡ true → list_any (λ x. is_in_order c (order_in classes x)) bases ≡ false → has b bases ≡ true
     → IsTrue (is_some (row_of classes b)) × (has c (get_or was b []) ≡ false)
 apart_base classes was c b [] are made apart at = absurd (false≢true at)
 apart_base classes was c b (d ∷ bases) are made apart at =
     let all = and_parts (is_some (row_of classes d)) (list_all (λ x. is_some (row_of classes x)) bases) made in
-    let none = or_parts (in_order c (order_in classes d)) (list_any (λ x. in_order c (order_in classes x)) bases) apart in
+    let none = or_parts (is_in_order c (order_in classes d)) (list_any (λ x. is_in_order c (order_in classes x)) bases) apart in
     elim (or_cases (d == b) (has b bases) at) [
       | inl here ↦
           let is : d ≡ b = eqb-true d b here in
-          subst (λ x. IsTrue (is_some (row_of classes x)) × (has c (get_or was x []) ≡ false)) is (all.0, sym (ap (in_order c) (are d all.0)) ∙ none.0)
+          subst (λ x. IsTrue (is_some (row_of classes x)) × (has c (get_or was x []) ≡ false)) is (all.0, sym (ap (is_in_order c) (are d all.0)) ∙ none.0)
       | inr later ↦ apart_base classes was c b bases are all.1 none.1 later
     ]
 
 -- before the first round: the new order of c, and the orders that were kept
 pub renewed_first : (classes : List (Option ClassRow)) (was : List (List ℕ)) (c : ℕ) (bases order : List ℕ) → AreOrders classes was
-    → list_all (λ x. is_some (row_of classes x)) (c ∷ bases) ≡ true → list_any (λ x. in_order c (order_in classes x)) bases ≡ false
+    → list_all (λ x. is_some (row_of classes x)) (c ∷ bases) ≡ true → list_any (λ x. is_in_order c (order_in classes x)) bases ≡ false
     → c < length was → order_or_none order ≡ order_by was c bases
     → AreRenewed (rebased classes c bases) classes was c 0 0 (set was c order)
 renewed_first classes was c bases order are made apart room is =

@@ -40,9 +40,9 @@ pub fn find_along_order(classes: &[Option<ClassRow>], order: &[u16], n: Name) ->
     None
 }
 
-/// The numbers behind k in an order, where k stands in it.
-pub fn behind(k: u16, order: &[u16]) -> Option<&[u16]>
-    ensures { option_copied result ≡ attributes.behind k order.now }
+/// The numbers after k in an order, where k stands in it.
+pub fn classes_after(k: u16, order: &[u16]) -> Option<&[u16]>
+    ensures { option_copied result ≡ attributes.classes_after k order.now }
 {
     for i in 0..order.len() {
         if order[i] == k {

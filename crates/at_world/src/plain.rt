@@ -36,15 +36,15 @@ pub struct Plain {
 }
 
 impl Model for Plain {
-    ghost use Rattle.at_world.specs.Plain.{State};
+    ghost use Rattle.at_world.specs.Plain.{PlainState};
 
-    ghost Value = { State };
+    ghost Value = { PlainState };
 
-    ghost use Rattle.at_world.specs.Plain.{IsKept, lists_of};
+    ghost use Rattle.at_world.specs.Plain.{IsCoherent, lists_of};
 
     ghost view = { λ p. record { world = record { classes = p.classes.items; objects = p.objects.items; dicts = p.dicts.items }; place = p.place } };
 
-    ghost invariant = { λ p. IsKept p.classes.items (lists_of p.orders.items) p.objects.items p.dicts.items };
+    ghost invariant = { λ p. IsCoherent p.classes.items (lists_of p.orders.items) p.objects.items p.dicts.items };
 }
 
 impl Plain {

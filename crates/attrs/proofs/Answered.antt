@@ -3,7 +3,7 @@ use Rattle.std.proofs.Common.{◌≡◌, ◌<◌, ap, sym, ℕ, List, [], ◌∷
 use Rattle.at_source.specs.Whole.{GaveAll}
 use Rattle.at_line.specs.declared.line.Line.{Line}
 use Rattle.at_model.specs.declared.last.Final as final
-use Rattle.at_script.specs.Parts.{Parts}
+use Rattle.at_script.specs.Parts.{ScriptParts}
 use Rattle.at_script.specs.Script.{script_of}
 use Rattle.attrs.specs.declared.status.Status as status
 use Rattle.attrs.specs.declared.status.Status.TheVariants as statuses
@@ -20,7 +20,7 @@ answered Runs before now bytes statuses.ReadFault gave few answer = absurd answe
 answered Runs before now bytes statuses.WriteFault gave few answer = inl (bytes, gave, few, answer)
 
 -- What is a run of a script in one sense is one in another at each answer, where it is so of every script that bytes write.
-module _ (Runs Others : Running) (so : (bytes : List ℕ) (s : Parts) (lines : List Line) (last : final.Final) → script_of bytes ≡ Some s → Runs s lines last → Others s lines last) where
+module _ (Runs Others : Running) (so : (bytes : List ℕ) (s : ScriptParts) (lines : List Line) (last : final.Final) → script_of bytes ≡ Some s → Runs s lines last → Others s lines last) where
   transcript_so : (bytes written : List ℕ) → IsTranscript Runs bytes written → IsTranscript Others bytes written
   transcript_so bytes written t = (t.0, t.1, t.2, t.3, so bytes t.0 t.1 t.2 t.3 t.4, t.5)
 

@@ -2,10 +2,10 @@
 use Rattle.std.specs.Prelude.{ℕ, ◌≡◌, ◌<◌, ◌⊎◌, List, ◌++◌, length, Option, Some, None, codes, decimal}
 use Rattle.std.specs.Io.KnownBytes.{append_known}
 use Rattle.at_source.specs.Faults.{Rose}
-use Rattle.at_source.specs.Whole.{GaveAll, GaveFirst, GaveFewer, GrewByFront}
+use Rattle.at_source.specs.Whole.{GaveAll, GaveFirst, GaveFewer, GrewByPrefix}
 use Rattle.at_script.specs.declared.fault.Cause as cause
 use Rattle.at_script.specs.declared.fault.Cause.TheVariants as causes
-use Rattle.at_script.specs.Parts.{Parts}
+use Rattle.at_script.specs.Parts.{ScriptParts}
 use Rattle.at_script.specs.Script.{script_of}
 use Rattle.at_text.specs.Transcript.{text}
 use Rattle.at_line.specs.declared.line.Line.{Line}
@@ -56,17 +56,17 @@ too_many = 1048577
 abbrev pub Wrote : Ends → Ends → List ℕ → Type 0
 Wrote before now bytes = now.written ≡ append_known before.written bytes
 
--- the sink failed, and a front of the text was written
+-- the sink failed, and a prefix of the text was written
 abbrev pub FailedWriting : Ends → Ends → List ℕ → Type 0
-FailedWriting before now bytes = Rose before.write_faults now.write_faults × GrewByFront before.written now.written bytes
+FailedWriting before now bytes = Rose before.write_faults now.write_faults × GrewByPrefix before.written now.written bytes
 
 -- which lines and last namespaces are a run of a script
 abbrev pub Running : Type 1
-Running = Parts → List Line → final.Final → Type 0
+Running = ScriptParts → List Line → final.Final → Type 0
 
 -- the text is the transcript of a run of the script that the bytes are
 abbrev pub IsTranscript : Running → List ℕ → List ℕ → Type 0
-IsTranscript Runs bytes written = (s : Parts) × (lines : List Line) × (last : final.Final) × (script_of bytes ≡ Some s) × Runs s lines last × (written ≡ text bytes s lines last)
+IsTranscript Runs bytes written = (s : ScriptParts) × (lines : List Line) × (last : final.Final) × (script_of bytes ≡ Some s) × Runs s lines last × (written ≡ text bytes s lines last)
 
 -- the text that is written for an input which was read to its end: the transcript of a run, or that it is no script
 abbrev pub IsTextOf : Running → List ℕ → List ℕ → Type 0

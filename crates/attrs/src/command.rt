@@ -2,7 +2,7 @@
 ghost use Rattle.std.specs.Prelude.{◌≡◌, ◌≤◌, ◌↔◌, ◌∷◌, [], ◌⊎◌, ℕ, List, Option, Some, IsTrue, map, codes, string_bytes};
 ghost use Rattle.std.specs.Io.KnownBytes.{append_known};
 ghost use Rattle.at_source.specs.Faults.{Rose};
-ghost use Rattle.at_source.specs.Whole.{GaveFirst, GrewByFront};
+ghost use Rattle.at_source.specs.Whole.{GaveFirst, GrewByPrefix};
 ghost use Rattle.at_script.specs.Script.{script_of};
 ghost use Rattle.at_run.specs.PlainRun.{IsPlainRun};
 ghost use Rattle.at_run.specs.LegalRun.{IsLegalRun};
@@ -133,7 +133,7 @@ fn transcribe<K: Sink>(alloc: Global, bytes: &[u8], script: &Script, out: &mut K
 /// Writes why the bytes are no script.
 fn refuse<K: Sink>(alloc: Global, line: u32, cause: Cause, out: &mut K) -> Status
     ensures refused { result ≡ Status.Refused line cause → K.written out.new ≡ append_known (K.written out.old) (refusal_text line cause) }
-    ensures fault { result ≡ Status.WriteFault → Rose (K.faults out.old) (K.faults out.new) × GrewByFront (K.written out.old) (K.written out.new) (refusal_text line cause) }
+    ensures fault { result ≡ Status.WriteFault → Rose (K.faults out.old) (K.faults out.new) × GrewByPrefix (K.written out.old) (K.written out.new) (refusal_text line cause) }
     ensures no_memory { result ≡ Status.NoMemory → K.written out.new ≡ K.written out.old }
     ensures answers { (result ≡ Status.Refused line cause) ⊎ (result ≡ Status.WriteFault) ⊎ (result ≡ Status.NoMemory) }
     ensures later { K.faults out.old ≤ K.faults out.new }

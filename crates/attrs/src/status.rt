@@ -19,7 +19,7 @@ pub enum Status {
     NoMemory,
     /// The source failed; nothing was written.
     ReadFault,
-    /// The sink failed; a front of the text was written.
+    /// The sink failed; a prefix of the text was written.
     WriteFault,
 }
 

@@ -2,7 +2,7 @@
 ghost use Rattle.std.specs.Prelude.{◌≡◌, ◌≤◌, IfOk, OnOk, OnErr};
 ghost use Rattle.std.specs.Io.KnownBytes.{append_known};
 ghost use Rattle.at_source.specs.Faults.{Rose};
-ghost use Rattle.at_source.specs.Whole.{GrewByFront};
+ghost use Rattle.at_source.specs.Whole.{GrewByPrefix};
 ghost use Rattle.attrs.specs.Answers as answers;
 
 use at_script::Cause;
@@ -12,7 +12,7 @@ use std::alloc::{AllocError, Global};
 /// Writes a text and hands it on.
 pub fn tell<K: Sink>(out: &mut K, text: &[u8]) -> Result<(), Failed>
     ensures whole { OnOk result (K.written out.new ≡ append_known (K.written out.old) text.now) }
-    ensures part { OnErr result (GrewByFront (K.written out.old) (K.written out.new) text.now) }
+    ensures part { OnErr result (GrewByPrefix (K.written out.old) (K.written out.new) text.now) }
     ensures later { K.faults out.old ≤ K.faults out.new }
     ensures cause { OnErr result (Rose (K.faults out.old) (K.faults out.new)) }
 {

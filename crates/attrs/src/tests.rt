@@ -137,7 +137,7 @@ fn assert_ended<R: Abort>(rt: &R, ended: &Ended, status: Status, written: &[u8],
     assert_eq!(rt; ended.out.bytes(), written, "{ends:?}");
 }
 
-/// The transcript that has this behind its script.
+/// The transcript that has this after its script.
 fn transcript(alloc: Global, script: &str, told: &str) -> Result<String, AllocError> {
     let length = script.len();
     format!(in alloc; "attrs transcript 1\nscript {length}\n{script}\n{told}")
@@ -221,7 +221,7 @@ fn a_read_fault_writes_nothing(rt: HostRuntime) -> Result<(), Fail> {
 }
 
 /// The first bytes of the text.
-fn front(text: &str, length: usize) -> &[u8] {
+fn prefix(text: &str, length: usize) -> &[u8] {
     let most = length.min(text.len());
     &text.as_bytes()[..most]
 }
@@ -248,34 +248,34 @@ fn write_fails<R: Abort>(
 }
 
 #[test]
-fn a_write_fault_leaves_a_front(rt: HostRuntime) -> Result<(), Fail> {
+fn a_write_fault_leaves_a_prefix(rt: HostRuntime) -> Result<(), Fail> {
     // The last call is the flush.
     for number in 0..=TRANSCRIPT.len() {
-        let written = front(TRANSCRIPT, number);
+        let written = prefix(TRANSCRIPT, number);
         write_fails(&rt, rt.alloc(), FIRST, &failing_at(number), written)?;
     }
     Ok(())
 }
 
 #[test]
-fn a_full_sink_has_a_front(rt: HostRuntime) -> Result<(), Fail> {
+fn a_full_sink_has_a_prefix(rt: HostRuntime) -> Result<(), Fail> {
     for room in 0..TRANSCRIPT.len() {
         let ends = Ends {
             room,
             most_written: 100,
             ..SOUND
         };
-        let written = front(TRANSCRIPT, room);
+        let written = prefix(TRANSCRIPT, room);
         write_fails(&rt, rt.alloc(), FIRST, &ends, written)?;
     }
     Ok(())
 }
 
 #[test]
-fn a_write_fault_leaves_a_front_of_a_refusal(rt: HostRuntime) -> Result<(), Fail> {
+fn a_write_fault_leaves_a_prefix_of_a_refusal(rt: HostRuntime) -> Result<(), Fail> {
     let refusal = "refused 0 script\n";
     for number in 0..=refusal.len() {
-        let written = front(refusal, number);
+        let written = prefix(refusal, number);
         write_fails(&rt, rt.alloc(), "", &failing_at(number), written)?;
     }
     Ok(())

@@ -10,9 +10,9 @@ struct Limit {
     head: &'static str,
     /// A line before its number.
     before: &'static str,
-    /// A line behind its number.
+    /// A line after its number.
     after: &'static str,
-    /// The lines behind those.
+    /// The lines after those.
     tail: &'static str,
     most: u16,
 }

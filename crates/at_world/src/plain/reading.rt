@@ -6,7 +6,7 @@ ghost use Rattle.at_model.specs.World as world;
 ghost use Rattle.at_model.specs.Attributes as attributes;
 
 use super::Plain;
-use crate::lookup::{behind, find_along_order};
+use crate::lookup::{classes_after, find_along_order};
 use at_desc::{Three, bind_class, bind_get, bind_special};
 use at_model::Object;
 use at_value::{Class, ClassList, Name, Obj, Reply, Value};
@@ -101,14 +101,14 @@ impl Plain {
         bind_special(t, &three, o, object.class)
     }
 
-    /// Reads a name behind class k in the order of an object's class.
+    /// Reads a name after class k in the order of an object's class.
     pub(super) fn super_get(&self, k: Class, o: Obj, n: Name) -> Reply
         ensures { result ≡ attributes.super_reply self.now.world k o n }
     {
         let Some(object) = self.objects.get(usize::from(o.number())) else {
             return Reply::NoAttr;
         };
-        let Some(rest) = self.order_behind(k, object.class) else {
+        let Some(rest) = self.order_after(k, object.class) else {
             return Reply::NotSubclass;
         };
         let t = find_along_order(&self.classes, rest, n);
@@ -116,12 +116,12 @@ impl Plain {
         bind_special(t, &three, o, object.class)
     }
 
-    /// What stands behind class k in the order of a class, where k stands there.
-    fn order_behind(&self, k: Class, c: Class) -> Option<&[u16]>
-        ensures { option_copied result ≡ attributes.behind_in k (world.order_of self.now.world c) }
+    /// What stands after class k in the order of a class, where k stands there.
+    fn order_after(&self, k: Class, c: Class) -> Option<&[u16]>
+        ensures { option_copied result ≡ attributes.classes_after_in k (world.order_of self.now.world c) }
     {
         match self.order_of(c) {
-            Some(order) => behind(k.number(), order),
+            Some(order) => classes_after(k.number(), order),
             None => None,
         }
     }

@@ -49,7 +49,7 @@ impl Plain {
 
     /// Whether class c stands in the order of a class.
     fn stands_above(&self, c: Class, base: Class) -> bool
-        ensures { result ≡ steps.in_order c (world.order_of self.now.world base) }
+        ensures { result ≡ steps.is_in_order c (world.order_of self.now.world base) }
     {
         match self.order_of(base) {
             Some(order) => has_number(c.number(), order),
@@ -89,7 +89,7 @@ fn new_orders(
     requires ordered { length was.now ≡ widths.classes }
     requires kept { AreOrders classes.now (lists_of was.now) }
     requires made { IsTrue (list_all (λ b. is_some (world.row_of classes.now b)) (c ∷ bases.now)) }
-    requires acyclic { list_any (λ b. steps.in_order c (world.order_in classes.now b)) bases.now ≡ false }
+    requires acyclic { list_any (λ b. steps.is_in_order c (world.order_in classes.now b)) bases.now ≡ false }
     ensures orders { IfOk result (λ orders. AreNewOrders (rebased classes.now c bases.now) (lists_of orders.items)) }
     ensures long { IfOk result (λ orders. length orders.items ≡ widths.classes) }
 {

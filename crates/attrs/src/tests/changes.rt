@@ -22,9 +22,9 @@ enum Anew {
 /// How one line is changed.
 #[derive(Clone, Copy)]
 enum Change {
-    /// It is left out, and the lines behind it are numbered anew.
+    /// It is left out, and the lines after it are numbered anew.
     LeftOut,
-    /// It stands twice, and the lines behind it are numbered anew.
+    /// It stands twice, and the lines after it are numbered anew.
     Doubled,
     /// It and the next one are swapped, and numbered anew.
     Swapped,

@@ -2,7 +2,7 @@
 //! definitions: the thread that runs a script, and the data model.
 use at_line::{Line, LineOp, LineReply, Local, What};
 use at_script::{Block, Script, Stmt};
-use at_thread::{Demand, Thread, Use};
+use at_thread::{Next, ReplyUse, Thread};
 use at_value::{Op, Path, Value};
 use at_world::Plain;
 use std::alloc::{AllocError, Global};
@@ -52,7 +52,7 @@ fn stands_for(op: &LineOp, local: &Local) -> bool {
 }
 
 /// The thread takes the reply of its line, where the operation may reply so.
-fn takes_reply(thread: &mut Thread, op: &LineOp, used: &Use, reply: &LineReply) -> bool {
+fn takes_reply(thread: &mut Thread, op: &LineOp, used: &ReplyUse, reply: &LineReply) -> bool {
     match reply {
         LineReply::Of(reply) => match op {
             LineOp::Of(_) => {
@@ -66,7 +66,7 @@ fn takes_reply(thread: &mut Thread, op: &LineOp, used: &Use, reply: &LineReply) 
 }
 
 /// The thread takes the line to what it asked for.
-fn takes(thread: &mut Thread, op: &LineOp, used: &Use, line: &Line) -> bool {
+fn takes(thread: &mut Thread, op: &LineOp, used: &ReplyUse, line: &Line) -> bool {
     match &line.what {
         What::Did(_, _, done, reply) => *done == *op && takes_reply(thread, op, used, reply),
         What::Local(local) => {
@@ -120,10 +120,10 @@ fn said(is_so: bool) -> Turn {
 /// One turn of the thread, where this line comes next, if any.
 fn take_turn<'a>(thread: &mut Thread<'a>, script: &'a Script, line: Option<&Line>) -> Turn {
     match (thread.next(script), line) {
-        (Demand::Ended, _) => Turn::Ended,
-        (Demand::Silent, _) => Turn::Silent,
-        (Demand::Says(local), Some(line)) => said(says(line, &local)),
-        (Demand::Asks(op, used), Some(line)) => said(takes(thread, &op, &used, line)),
+        (Next::Ended, _) => Turn::Ended,
+        (Next::Silent, _) => Turn::Silent,
+        (Next::Says(local), Some(line)) => said(says(line, &local)),
+        (Next::Asks(op, used), Some(line)) => said(takes(thread, &op, &used, line)),
         (_, None) => Turn::Strayed,
     }
 }

@@ -6,7 +6,7 @@ use std::sync::Wait;
 use std::test::Fail;
 use std::thread::Threads;
 
-/// Operands: a script, and its transcript behind the script.
+/// Operands: a script, and its transcript after the script.
 const OPERANDS: [(&str, &str); 4] = [
     // Values of all forms, on classes and on objects; names are printed by their bytes.
     (
@@ -362,7 +362,7 @@ fn repeated(alloc: Global, text: &str, times: u32) -> Result<String, AllocError>
     Ok(repeated)
 }
 
-/// A script that repeats a statement behind others.
+/// A script that repeats a statement after others.
 fn repeating(
     alloc: Global,
     before: &str,

@@ -1,10 +1,10 @@
-//! Reads of all kinds, worked out by hand: behind a class, of a class, past an object's own values, by a descriptor.
+//! Reads of all kinds, worked out by hand: after a class, of a class, past an object's own values, by a descriptor.
 use super::all_transcribe;
 use std::test::Fail;
 
-/// What stands behind a class, what a class gives to itself, and special names.
+/// What stands after a class, what a class gives to itself, and special names.
 const READS: [(&str, &str); 4] = [
-    // Behind each class of an order, the object's own values left aside.
+    // After each class of an order, the object's own values left aside.
     (
         "attrs 1
 main

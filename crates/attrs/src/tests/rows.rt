@@ -2,7 +2,7 @@
 use super::all_transcribe;
 use std::test::Fail;
 
-/// Values of objects and of classes: a script, and its transcript behind the script.
+/// Values of objects and of classes: a script, and its transcript after the script.
 const HIDING: [(&str, &str); 5] = [
     (
         "attrs 1

@@ -24,18 +24,18 @@ inner : (section : KeptSection (whats_of_thread 1 other_written)) → IsInner se
 inner section = cases section.before section.between section.closed section.stands
   where
     cases : (before between : List what.What) → EndsAll 0 between
-        → begins 3 1 ∷ begins 3 0 ∷ ends_kept 4 ∷ [] ≡ before ++ whats.Did section.begun section.begin_path (line_ops.Begin section.first section.second) section.begin_reply ∷ (between ++ whats.Did section.ended section.end_path line_ops.Finish line_replies.Kept ∷ section.behind)
+        → begins 3 1 ∷ begins 3 0 ∷ ends_kept 4 ∷ [] ≡ before ++ whats.Did section.begun section.begin_path (line_ops.Begin section.first section.second) section.begin_reply ∷ (between ++ whats.Did section.ended section.end_path line_ops.Finish line_replies.Kept ∷ section.after)
         → IsInner section
     cases [] [] closed same = absurd (cc same)
     cases [] (x ∷ []) closed same = let is : x ≡ begins 3 0 = cc same in absurd (subst (λ (w : what.What). EndsAll 0 (w ∷ [])) is closed)
     cases [] (x ∷ y ∷ between) closed same =
-        let rest : [] ≡ between ++ whats.Did section.ended section.end_path line_ops.Finish line_replies.Kept ∷ section.behind = cc same in absurd (never_none between section.behind _ rest)
+        let rest : [] ≡ between ++ whats.Did section.ended section.end_path line_ops.Finish line_replies.Kept ∷ section.after = cc same in absurd (never_none between section.after _ rest)
     cases (x ∷ []) [] closed same = record { first = cc same; second = cc same; begun = cc same; ended = cc same }
     cases (x ∷ []) (y ∷ between) closed same =
-        let rest : [] ≡ between ++ whats.Did section.ended section.end_path line_ops.Finish line_replies.Kept ∷ section.behind = cc same in absurd (never_none between section.behind _ rest)
+        let rest : [] ≡ between ++ whats.Did section.ended section.end_path line_ops.Finish line_replies.Kept ∷ section.after = cc same in absurd (never_none between section.after _ rest)
     cases (x ∷ y ∷ []) between closed same = absurd (cc same)
     cases (x ∷ y ∷ z ∷ before) between closed same =
-        let rest : [] ≡ before ++ whats.Did section.begun section.begin_path (line_ops.Begin section.first section.second) section.begin_reply ∷ (between ++ whats.Did section.ended section.end_path line_ops.Finish line_replies.Kept ∷ section.behind) = cc same in
+        let rest : [] ≡ before ++ whats.Did section.begun section.begin_path (line_ops.Begin section.first section.second) section.begin_reply ∷ (between ++ whats.Did section.ended section.end_path line_ops.Finish line_replies.Kept ∷ section.after) = cc same in
         absurd (never_none before _ _ rest)
 
 only_zero : (o : ℕ) → Contains (0 ∷ []) o → o ≡ 0
@@ -123,17 +123,17 @@ IsOver section = (section.begun ≡ record { 0 = 3 }) × (section.ended ≡ reco
 outer_or_over : (section : KeptSection (whats_of_thread 1 written_once_ended)) → IsOuter section ⊎ IsOver section
 outer_or_over section = cases section.before section.between section.closed section.stands
   where
-    cases : (before between : List what.What) → EndsAll 0 between → begins 3 0 ∷ begins 3 1 ∷ ends_kept 3 ∷ ends_kept 4 ∷ [] ≡ before ++ begin section ∷ (between ++ end section ∷ section.behind) → IsOuter section ⊎ IsOver section
+    cases : (before between : List what.What) → EndsAll 0 between → begins 3 0 ∷ begins 3 1 ∷ ends_kept 3 ∷ ends_kept 4 ∷ [] ≡ before ++ begin section ∷ (between ++ end section ∷ section.after) → IsOuter section ⊎ IsOver section
     cases [] [] closed same = absurd (cc same)
     cases [] (x ∷ []) closed same = let is : x ≡ begins 3 1 = cc same in absurd (subst (λ (w : what.What). EndsAll 0 (w ∷ [])) is closed)
     cases [] (x ∷ y ∷ []) closed same = inl (cc same, cc same, cc same)
-    cases [] (x ∷ y ∷ z ∷ between) closed same = let rest : [] ≡ between ++ end section ∷ section.behind = cc same in absurd (never_none between section.behind _ rest)
+    cases [] (x ∷ y ∷ z ∷ between) closed same = let rest : [] ≡ between ++ end section ∷ section.after = cc same in absurd (never_none between section.after _ rest)
     cases (a ∷ []) [] closed same = inr (cc same, cc same)
     cases (a ∷ []) (x ∷ []) closed same = let is : x ≡ ends_kept 3 = cc same in absurd (subst (λ (w : what.What). EndsAll 0 (w ∷ [])) is closed)
-    cases (a ∷ []) (x ∷ y ∷ between) closed same = let rest : [] ≡ between ++ end section ∷ section.behind = cc same in absurd (never_none between section.behind _ rest)
+    cases (a ∷ []) (x ∷ y ∷ between) closed same = let rest : [] ≡ between ++ end section ∷ section.after = cc same in absurd (never_none between section.after _ rest)
     cases (a ∷ b ∷ []) between closed same = absurd (cc same)
     cases (a ∷ b ∷ d ∷ []) between closed same = absurd (cc same)
-    cases (a ∷ b ∷ d ∷ e ∷ before) between closed same = let rest : [] ≡ before ++ begin section ∷ (between ++ end section ∷ section.behind) = cc same in absurd (never_none before _ _ rest)
+    cases (a ∷ b ∷ d ∷ e ∷ before) between closed same = let rest : [] ≡ before ++ begin section ∷ (between ++ end section ∷ section.after) = cc same in absurd (never_none before _ _ rest)
 
 ended_of_first : (section : KeptSection (whats_of_thread 1 written_once_ended)) → All (LeavesAlone other_written_history section.begun.0 section.ended.0 (objects_of section.first section.second)) (writes_beside 1 written_once_ended)
 ended_of_first section = either (outer_or_over section)

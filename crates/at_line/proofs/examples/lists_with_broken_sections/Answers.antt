@@ -21,7 +21,7 @@ returns-clause-object c = λ kept.
       begin_reply = line_replies.Of replies.Done;
       before = [];
       between = [];
-      behind = [];
+      after = [];
       stands = refl;
       closed = tt;
     } in
@@ -41,7 +41,7 @@ returns-clause-dictionary c = λ kept.
       begin_reply = line_replies.Of replies.Done;
       before = [];
       between = [];
-      behind = [];
+      after = [];
       stands = refl;
       closed = tt;
     } in
@@ -61,7 +61,7 @@ returns-clause-inner c = λ kept.
       begin_reply = line_replies.Of replies.Done;
       before = begins 4 0 ∷ [];
       between = [];
-      behind = [];
+      after = [];
       stands = refl;
       closed = tt;
     } in
@@ -81,7 +81,7 @@ returns-clause-outer c = λ kept.
       begin_reply = line_replies.Of replies.Done;
       before = [];
       between = begins 4 1 ∷ ends_kept 4 ∷ [];
-      behind = [];
+      after = [];
       stands = refl;
       closed = tt;
     } in

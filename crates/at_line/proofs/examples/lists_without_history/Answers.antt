@@ -7,15 +7,15 @@ never_two : (found : Option op.Op) (first second : op.Op) → first ∷ second �
 never_two None first second same = cc same
 never_two (Some o) first second same = cc same
 
-never_behind : (history : List op.Op) (o : op.Op) → [] ≡ option_to_list (slice_get history 3) → o ∷ [] ≡ option_to_list (slice_get history 4) → ⊥
-never_behind [] o none some = cc some
-never_behind (a ∷ []) o none some = cc some
-never_behind (a ∷ b ∷ []) o none some = cc some
-never_behind (a ∷ b ∷ c ∷ []) o none some = cc some
-never_behind (a ∷ b ∷ c ∷ d ∷ rest) o none some = cc none
+never_past : (history : List op.Op) (o : op.Op) → [] ≡ option_to_list (slice_get history 3) → o ∷ [] ≡ option_to_list (slice_get history 4) → ⊥
+never_past [] o none some = cc some
+never_past (a ∷ []) o none some = cc some
+never_past (a ∷ b ∷ []) o none some = cc some
+never_past (a ∷ b ∷ c ∷ []) o none some = cc some
+never_past (a ∷ b ∷ c ∷ d ∷ rest) o none some = cc none
 
 pub returns-clause-twice : goal.returns-clause-twice
 returns-clause-twice c = λ history is. never_two (slice_get history 2) sets_five sets_six (is 3)
 
 pub returns-clause-left_out : goal.returns-clause-left_out
-returns-clause-left_out c = λ history is. never_behind history sets_six (is 4) (is 5)
+returns-clause-left_out c = λ history is. never_past history sets_six (is 4) (is 5)

@@ -1,7 +1,7 @@
 use Rattle.std.proofs.Common.{◌≡◌, ◌∙◌, sym, ap, subst, ℕ, ◌+◌, arith, List, [], ◌∷◌, ◌++◌, length, replicate, Option, None, length-append}
 use Rattle.at_value.specs.declared.value.Value as value
 use Rattle.at_line.specs.declared.line.Line.{Line}
-use Rattle.at_thread.specs.Execution.{State, start}
+use Rattle.at_thread.specs.Execution.{ThreadState, start}
 use Rattle.at_thread.specs.Threads.{state_of}
 use Rattle.at_thread.proofs.Steps.{Few}
 use Rattle.at_thread.proofs.Leading.{start_few, step_onward}
@@ -20,7 +20,7 @@ loop-lines-init c =
       made = (
         [],
         c.in_ok-lines.ensures.items,
-        subst (λ (s : State). Leading p (start p.main none) [] s c.args.plain.now) (sym at_start) (leading_start p (start p.main none) c.args.plain.now c.requires),
+        subst (λ (s : ThreadState). Leading p (start p.main none) [] s c.args.plain.now) (sym at_start) (leading_start p (start p.main none) c.args.plain.now c.requires),
         subst (Few p 0) (sym at_start) (start_few p p.main none),
       );
       room = omega (arith, c.in_ok-lines.ensures.capacity);

@@ -6,6 +6,6 @@ pub loop-filled-preserved : goal.loop-filled-preserved
 loop-filled-preserved g c = record {
   within = c.in_ok-count.ensures.fits;
   bound = c.in_ok-count.ensures.bound;
-  given = read_more _ _ _ _ _ _ _ c.loop-filled.invariant.given c.in_ok-count.ensures.front c.in_ok-count.ensures.given;
+  given = read_more _ _ _ _ _ _ _ c.loop-filled.invariant.given c.in_ok-count.ensures.prefix c.in_ok-count.ensures.given;
   later = omega (arith, c.loop-filled.invariant.later, c.in_ok-count.ensures.later);
 }

@@ -5,6 +5,6 @@ use Rattle.at_source.proofs.whole.send.Goals as goal
 pub loop-sent-preserved : goal.loop-sent-preserved
 loop-sent-preserved g c = record {
   within = search rules;
-  front = sent_more _ _ _ _ _ _ c.loop-sent.invariant.front c.in_ok-sent.ensures.taken;
+  prefix = sent_more _ _ _ _ _ _ c.loop-sent.invariant.prefix c.in_ok-sent.ensures.taken;
   later = omega (arith, c.loop-sent.invariant.later, c.in_ok-sent.ensures.later);
 }

@@ -8,7 +8,7 @@ invariant-loop-sent g l =
     let faults = g.K.Sink.faults in
     record {
       within : l.sent ≤ length l.bytes;
-      front : written l.out ≡ append_known (written l.fn.out) (take l.sent l.bytes);
+      prefix : written l.out ≡ append_known (written l.fn.out) (take l.sent l.bytes);
       later : faults l.fn.out ≤ faults l.out;
     }
 

@@ -10,8 +10,8 @@ loop-word-preserved c =
     let i = c.loop-word.word-index in
     let in_list : i < length c.args.words.now = omega (arith, c.fits-words, c.loop-word-test.true) in
     let next : i + 1 ≡ suc i = omega arith in
-    let front : drop i c.args.words.now ≡ get_or c.args.words.now i 0 ∷ drop (i + 1) c.args.words.now = rw next (drop-cons c.args.words.now i 0 in_list) in
-    let read = row_read base_bits bases_a_word c.loop-word.left c.min-here.result _ _ _ c.loop-word.bases c.read_row.new.bases _ c.min-here.ensures front
+    let prefix : drop i c.args.words.now ≡ get_or c.args.words.now i 0 ∷ drop (i + 1) c.args.words.now = rw next (drop-cons c.args.words.now i 0 in_list) in
+    let read = row_read base_bits bases_a_word c.loop-word.left c.min-here.result _ _ _ c.loop-word.bases c.read_row.new.bases _ c.min-here.ensures prefix
     c.in_ok-read_row.ensures.some c.loop-word.invariant.all
     in
     record { few = omega (arith, read.0, c.loop-word.invariant.few); all = read.1 }

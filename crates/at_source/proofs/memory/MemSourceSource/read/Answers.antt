@@ -3,7 +3,7 @@ use Rattle.at_source.specs.Memory.{SourceState}
 use Rattle.at_source.proofs.Pieces.{copied_split}
 use Rattle.at_source.proofs.memory.MemSourceSource.read.Goals as goal
 
-pub returns-clause-front : goal.returns-clause-front
-returns-clause-front c =
+pub returns-clause-prefix : goal.returns-clause-prefix
+returns-clause-prefix c =
     ap (λ (s : SourceState). s.left) (sym c.self.view_is)
-    ∙ copied_split _ _ _ _ _ c.deref.ensures.value c.copy_front-count.ensures.front
+    ∙ copied_split _ _ _ _ _ c.deref.ensures.value c.copy_prefix-count.ensures.prefix

@@ -3,7 +3,7 @@ use Rattle.std.proofs.lemmas.Result.{IfOk-weaker}
 use Rattle.at_c3.specs.Merge.{order_of_lists}
 use Rattle.at_model.specs.World.{row_of, order_of}
 use Rattle.at_model.specs.Step.{are_made, with_class}
-use Rattle.at_world.specs.Plain.{State, lists_of}
+use Rattle.at_world.specs.Plain.{PlainState, lists_of}
 use Rattle.at_world.proofs.Definitions.{gathered_order}
 use Rattle.at_world.proofs.plain.Plain.order_with.Goals as goal
 
@@ -13,8 +13,8 @@ gathered : (c : goal.After-order_from)
     ≡ order_of_lists c.number.result c.as_slice.result.now (map (λ b. get_or (lists_of c.deref.result.now) b []) c.as_slice.result.now)
 gathered c =
     let below : c.args.c < length c.self.inside.classes.items = omega (arith, c.number.ensures.same, c.number.ensures.range, c.self.invariant.numbered) in
-    let IsFree : State → Type 0 = λ s. row_of s.world.classes c.args.c ≡ None in
-    let AreMade : State → Type 0 = λ s. IsTrue (are_made s.world c.args.bases.now) in
+    let IsFree : PlainState → Type 0 = λ s. row_of s.world.classes c.args.c ≡ None in
+    let AreMade : PlainState → Type 0 = λ s. IsTrue (are_made s.world c.args.bases.now) in
     rw (← c.self.view_is) (gathered_order c.self.inside.classes.items (lists_of c.self.inside.orders.items) (lists_of c.deref.result.now) c.args.c c.number.result c.args.bases.now c.as_slice.result.now
     c.self.invariant.orders_are (subst IsFree (sym c.self.view_is) c.requires.free) below (subst AreMade (sym c.self.view_is) c.requires.made) c.number.ensures.same c.as_slice.ensures
     (ap lists_of c.deref.ensures.value))

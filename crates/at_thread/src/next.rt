@@ -4,7 +4,7 @@ use at_value::{Func, Obj, Value};
 
 /// What becomes of the reply to an operation.
 #[derive(Clone, Copy, Debug, PartialEq, Eq)]
-pub enum Use {
+pub enum ReplyUse {
     /// Nothing: `it` is none.
     Ignore,
     /// A value that was read is `it`, and a hook is called for its result.
@@ -25,7 +25,7 @@ pub enum Use {
 
 /// What `it` is when a call has ended.
 #[derive(Clone, Copy, Debug, PartialEq, Eq)]
-pub enum Gives {
+pub enum OnReturn {
     /// The result.
     Result,
     /// None.
@@ -36,9 +36,9 @@ pub enum Gives {
 
 /// An operation, and what becomes of its reply.
 #[derive(Clone, Copy, Debug, PartialEq, Eq)]
-pub struct Asked {
+pub struct Request {
     pub op: LineOp,
-    pub used: Use,
+    pub used: ReplyUse,
 }
 
 /// A call that is to begin: the function, where the callee can be called, and what it is called with.
@@ -47,13 +47,13 @@ pub struct Call {
     pub self_arg: Value,
     pub other: Value,
     pub arg: Value,
-    pub gives: Gives,
+    pub gives: OnReturn,
     pub callee: Option<Func>,
 }
 
 /// What a thread demands next.
 #[derive(Clone, Copy, Debug, PartialEq, Eq)]
-pub enum Demand {
+pub enum Next {
     /// The thread has ended.
     Ended,
     /// Nothing: it goes on.
@@ -61,5 +61,5 @@ pub enum Demand {
     /// A line that is no operation.
     Says(Local),
     /// An operation, whose reply the thread takes with this use.
-    Asks(LineOp, Use),
+    Asks(LineOp, ReplyUse),
 }

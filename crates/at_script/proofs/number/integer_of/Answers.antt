@@ -1,6 +1,6 @@
 use Rattle.std.proofs.Common.{◌∙◌, sym}
 use Rattle.at_script.proofs.Numerals.{none_from_no_text, none_from_parse}
-use Rattle.at_script.proofs.number.number_of.Goals as goal
+use Rattle.at_script.proofs.number.integer_of.Goals as goal
 
 pub returns-in_err-ok : goal.returns-in_err-ok
 returns-in_err-ok c =
