@@ -5,7 +5,8 @@ ghost use Rattle.std.specs.Option.{option_copied};
 ghost use Rattle.at_value.specs.Widths as widths;
 ghost use Rattle.at_model.specs.World as world;
 ghost use Rattle.at_model.specs.Step as steps;
-ghost use Rattle.at_world.specs.Plain.{AreOrders, lists_of};
+ghost use Rattle.at_model.specs.StoredOrders.{AreOrders};
+ghost use Rattle.at_world.specs.Plain.{lists_of};
 ghost use Rattle.at_model.specs.Step.{is_empty};
 ghost use Rattle.at_world.specs.Rebasing.{rebased, AreNewOrders, AreRenewed, is_due, due_row, first_empty};
 
