@@ -3,7 +3,7 @@ use Rattle.std.proofs.Common.{◌≡◌, ◌≢◌, ◌∙◌, ap, sym, refl, su
 use Rattle.std.specs.List.{IsDistinct, list_all}
 use Rattle.std.proofs.lemmas.Bool.{cases_lt, and_parts, or_parts, or_cases, not-false, eqb-true, eqb-false, ltb-true, leb-false, false≢true}
 use Rattle.std.proofs.lemmas.List.{set_past, length-set, get_or_past}
-use Rattle.std.proofs.lemmas.List.Elements.{All-nil, All-weaker, All-get_or, All-set, All-push}
+use Rattle.std.proofs.lemmas.List.Elements.{All-weaker, All-get_or, All-set, All-push}
 use Rattle.std.proofs.lemmas.Option.{slice_get_within, get_or_from_slice_get}
 use Rattle.at_c3.proofs.NumberLemmas.{has, has-from_Contains, all_differ}
 use Rattle.at_value.specs.Numbers.{object}
@@ -17,14 +17,14 @@ use Rattle.at_desc.specs.declared.descriptor.Step as step
 use Rattle.at_desc.specs.declared.descriptor.Step.TheVariants as steps
 use Rattle.at_model.specs.declared.rows.ClassRow.{ClassRow}
 use Rattle.at_model.specs.declared.rows.Object.{Object}
-use Rattle.at_model.specs.World.{World, Map, row_of, own_of, bases_of, IsMade, NamesMade, AllNameMade, IsWellFormed, opening}
+use Rattle.at_model.specs.World.{World, Map, row_of, own_of, bases_of, IsMade, NamesMade, IsNamespace, IsWellFormed}
 use Rattle.at_model.specs.Attributes.{Outcome, dict_of, with_dict, set_by, set_on, del_own, del_by, del_on}
 use Rattle.at_model.specs.Step as stepping
-use Rattle.at_model.specs.History.{after, replay}
+use Rattle.at_model.specs.History.{replay}
 use Rattle.at_model.proofs.OrderLaws.{base_from_has}
 use Rattle.at_model.proofs.Orders.{order_in-same_bases, made_below}
 use Rattle.at_model.proofs.StoredOrders.{ordered-from_none, same_bases-own, is_some-from_bases}
-use Rattle.at_model.proofs.Worlds.{with_value-all, without-all, all_named-grows, with_row, formed-with_row, with_objects, formed-with_objects, opening_is_formed}
+use Rattle.at_model.proofs.Worlds.{no_names_namespace, with_value-namespace, without-namespace, namespace-grows, with_row, formed-with_row, with_objects, formed-with_objects}
 
 -- either outcome of a test is well-formed
 after_test : (b : Bool) (x y : Outcome) → (b ≡ true → IsWellFormed x.world) → (b ≡ false → IsWellFormed y.world) → IsWellFormed (cond b x y).world
@@ -53,7 +53,13 @@ value_there : (w : World) (v : value.Value) → stepping.are_objects w (stepping
     → stepping.are_made w (stepping.class_in v) ≡ true → NamesMade w v
 value_there w (values.Class c) objects classes = (and_parts (stepping.is_made w c) true classes).0
 value_there w (values.Obj o) objects classes = ltb-true o (length w.objects) (and_parts (ltb o (length w.objects)) true objects).0
-value_there w v objects classes = tt
+value_there w values.Nothing objects classes = tt
+value_there w (values.Int z) objects classes = tt
+value_there w (values.Text n) objects classes = tt
+value_there w (values.Func f) objects classes = tt
+value_there w (values.Prop p) objects classes = tt
+value_there w (values.Static f) objects classes = tt
+value_there w (values.ClassM f) objects classes = tt
 
 -- Classes
 
@@ -68,7 +74,7 @@ if_ordered-formed w changed formed then_formed =
 
 -- new bases for a class
 with_bases-formed : (w : World) (c : ℕ) (row : ClassRow) → IsWellFormed w → c ≢ object → stepping.are_made w row.bases ≡ true
-    → stepping.has_repeat row.bases ≡ false → AllNameMade w row.own
+    → stepping.has_repeat row.bases ≡ false → IsNamespace w row.own
     → stepping.first_unordered (with_row w c row) ≡ None → IsWellFormed (with_row w c row)
 with_bases-formed w c row formed other made once named none =
     elim (cases_lt c (length w.classes)) [
@@ -86,7 +92,7 @@ new_class-formed w c bases formed made =
     after_test (stepping.has_repeat bases) _ _ (λ _. formed) (λ once.
     let other : c ≢ object = λ e. false≢true (sym free ∙ ap (stepping.is_made w) e ∙ ap is_some formed.rooted) in
     if_ordered-formed w (stepping.with_class w c bases) formed
-    (with_bases-formed w c (record { bases = bases; own = [] }) formed other made once (All-nil (λ (pair : ℕ × value.Value). NamesMade w pair.1))))))
+    (with_bases-formed w c (record { bases = bases; own = [] }) formed other made once (no_names_namespace w)))))
 
 set_bases-formed : (w : World) (c : ℕ) (bases : List ℕ) → IsWellFormed w → stepping.are_made w bases ≡ true
     → IsWellFormed (stepping.set_bases_effect w c bases).world
@@ -96,11 +102,11 @@ set_bases-formed w c bases formed made =
     after_test (stepping.has_repeat bases) _ _ (λ _. formed) (λ once.
     after_test (stepping.is_cycle w c bases) _ _ (λ _. formed) (λ _.
     if_ordered-formed w (stepping.with_bases w c bases) formed
-    (with_bases-formed w c (record { bases = bases; own = own_of (row_of w.classes c) }) formed (eqb-false c object other) made once (formed.named c))))))
+    (with_bases-formed w c (record { bases = bases; own = own_of (row_of w.classes c) }) formed (eqb-false c object other) made once (formed.owned c))))))
 
 -- other names for a class
 with_names-formed : (w : World) (c : ℕ) (row : Option ClassRow) (names : Map) → IsWellFormed w → row_of w.classes c ≡ row → c ≢ object
-    → AllNameMade w names → IsWellFormed (record w { classes = stepping.with_names w.classes c row names })
+    → IsNamespace w names → IsWellFormed (record w { classes = stepping.with_names w.classes c row names })
 with_names-formed w c None names formed at other named = formed
 with_names-formed w c (Some row) names formed at other named =
     let now : ClassRow = record row { own = names } in
@@ -118,14 +124,14 @@ type_set-formed : (w : World) (c n : ℕ) (v : value.Value) → IsWellFormed w �
 type_set-formed w c n v formed there =
     after_test (c == object) _ _ (λ _. formed) (λ other.
     with_names-formed w c (row_of w.classes c) (with_value n v (own_of (row_of w.classes c))) formed refl (eqb-false c object other)
-    (with_value-all (NamesMade w) n v (own_of (row_of w.classes c)) there (formed.named c)))
+    (with_value-namespace w n v (own_of (row_of w.classes c)) there (formed.owned c)))
 
 type_del-formed : (w : World) (c n : ℕ) → IsWellFormed w → IsWellFormed (stepping.type_del_effect w c n).world
 type_del-formed w c n formed =
     after_test (c == object) _ _ (λ _. formed) (λ other.
     after_test (is_none (value_at n (own_of (row_of w.classes c)))) _ _ (λ _. formed) (λ _.
     with_names-formed w c (row_of w.classes c) (without n (own_of (row_of w.classes c))) formed refl (eqb-false c object other)
-    (without-all (NamesMade w) n (own_of (row_of w.classes c)) (formed.named c))))
+    (without-namespace w n (own_of (row_of w.classes c)) (formed.owned c))))
 
 -- Objects
 
@@ -144,35 +150,35 @@ new-formed w c formed made =
     let one_more : length objects ≡ length w.objects + 1 = length-append w.objects (fresh ∷ []) in
     let one_dict : length dicts ≡ length w.dicts + 1 = length-append w.dicts ([] ∷ []) in
     let less : length w.objects < widths.objects = leb-false widths.objects (length w.objects) room in
-    let kept : length w.dicts ≡ length w.objects = formed.kept in
+    let paired : length w.dicts ≡ length w.objects = formed.paired in
     formed-with_objects w objects dicts formed (omega arith) (omega arith)
     (All-push (IsPlaced w (length objects)) w.objects fresh
     (All-weaker (IsPlaced w (length w.objects)) (IsPlaced w (length objects)) (λ o there. let below : o.dict < length w.objects = there.1 in (there.0, omega arith)) w.objects formed.placed)
     (made, omega arith))
     (omega arith)
-    (All-push (AllNameMade changed) w.dicts [] (All-weaker (AllNameMade w) (AllNameMade changed) (all_named-grows w changed (λ d there. there, omega arith)) w.dicts formed.held)
-    (All-nil (λ (pair : ℕ × value.Value). NamesMade changed pair.1)))))
+    (All-push (IsNamespace changed) w.dicts [] (All-weaker (IsNamespace w) (IsNamespace changed) (namespace-grows w changed (λ d there. there, omega arith)) w.dicts formed.filled)
+    (no_names_namespace changed))))
 
 -- the dictionary of an object, with other names
-with_dict-formed : (w : World) (d : ℕ) (names : Map) → IsWellFormed w → AllNameMade w names → IsWellFormed (with_dict w d names)
+with_dict-formed : (w : World) (d : ℕ) (names : Map) → IsWellFormed w → IsNamespace w names → IsWellFormed (with_dict w d names)
 with_dict-formed w d names formed named =
     let dicts = set w.dicts d names in
     let changed = with_objects w w.objects dicts in
-    let same : (held : Map) → AllNameMade w held → AllNameMade changed held = all_named-grows w changed (λ c there. there, omega arith) in
-    formed-with_objects w w.objects dicts formed (omega arith) formed.few formed.placed (length-set w.dicts d names ∙ formed.kept)
-    (All-set (AllNameMade changed) w.dicts d names (same names named) (All-weaker (AllNameMade w) (AllNameMade changed) same w.dicts formed.held))
+    let same : (held : Map) → IsNamespace w held → IsNamespace changed held = namespace-grows w changed (λ c there. there, omega arith) in
+    formed-with_objects w w.objects dicts formed (omega arith) formed.few formed.placed (length-set w.dicts d names ∙ formed.paired)
+    (All-set (IsNamespace changed) w.dicts d names (same names named) (All-weaker (IsNamespace w) (IsNamespace changed) same w.dicts formed.filled))
 
-dict_of-named : (w : World) (o : Object) → IsWellFormed w → AllNameMade w (dict_of w o)
+dict_of-named : (w : World) (o : Object) → IsWellFormed w → IsNamespace w (dict_of w o)
 dict_of-named w o formed =
     elim (cases_lt o.dict (length w.dicts)) [
-      | inl below ↦ All-get_or (AllNameMade w) w.dicts o.dict [] below formed.held
-      | inr past ↦ subst (AllNameMade w) (sym (get_or_past w.dicts o.dict [] past)) (All-nil (λ (pair : ℕ × value.Value). NamesMade w pair.1))
+      | inl below ↦ All-get_or (IsNamespace w) w.dicts o.dict [] below formed.filled
+      | inr past ↦ subst (IsNamespace w) (sym (get_or_past w.dicts o.dict [] past)) (no_names_namespace w)
     ]
 
 set_by-formed : (w : World) (o : Object) (n : ℕ) (v : value.Value) (s : step.Step) → IsWellFormed w → NamesMade w v → IsWellFormed (set_by w o n v s).world
 set_by-formed w o n v (steps.Says r) formed there = formed
 set_by-formed w o n v steps.Own formed there =
-    with_dict-formed w o.dict (with_value n v (dict_of w o)) formed (with_value-all (NamesMade w) n v (dict_of w o) there (dict_of-named w o formed))
+    with_dict-formed w o.dict (with_value n v (dict_of w o)) formed (with_value-namespace w n v (dict_of w o) there (dict_of-named w o formed))
 
 set_on-formed : (w : World) (o n : ℕ) (v : value.Value) (found : Option Object) → IsWellFormed w → NamesMade w v → IsWellFormed (set_on w o n v found).world
 set_on-formed w o n v None formed there = formed
@@ -180,7 +186,7 @@ set_on-formed w o n v (Some found) formed there = set_by-formed w found n v _ fo
 
 del_own-formed : (w : World) (o : Object) (n : ℕ) (was : Option value.Value) → IsWellFormed w → IsWellFormed (del_own w o n was).world
 del_own-formed w o n None formed = formed
-del_own-formed w o n (Some v) formed = with_dict-formed w o.dict (without n (dict_of w o)) formed (without-all (NamesMade w) n (dict_of w o) (dict_of-named w o formed))
+del_own-formed w o n (Some v) formed = with_dict-formed w o.dict (without n (dict_of w o)) formed (without-namespace w n (dict_of w o) (dict_of-named w o formed))
 
 del_by-formed : (w : World) (o : Object) (n : ℕ) (s : step.Step) → IsWellFormed w → IsWellFormed (del_by w o n s).world
 del_by-formed w o n (steps.Says r) formed = formed
@@ -204,8 +210,8 @@ with_object_at-formed w o now formed placed =
     let few : length w.objects ≤ widths.objects = formed.few in
     formed-with_objects w objects w.dicts formed (omega arith) (omega arith)
     (subst (λ many. All (IsPlaced w many) objects) (sym long) (All-set (IsPlaced w (length w.objects)) w.objects o now placed formed.placed))
-    (formed.kept ∙ sym long)
-    (All-weaker (AllNameMade w) (AllNameMade changed) (all_named-grows w changed (λ c there. there, omega arith)) w.dicts formed.held)
+    (formed.paired ∙ sym long)
+    (All-weaker (IsNamespace w) (IsNamespace changed) (namespace-grows w changed (λ c there. there, omega arith)) w.dicts formed.filled)
 
 set_class-formed : (w : World) (o c : ℕ) (found : Option Object) → IsWellFormed w → IsMade w c → slice_get w.objects o ≡ found
     → IsWellFormed (stepping.set_class_on w o c found).world
@@ -250,9 +256,6 @@ step-formed w operation formed =
     after_test (not (stepping.are_made w (stepping.classes_in operation))) _ _ (λ _. formed) (λ classes.
     effect-formed w operation formed (not-false (stepping.are_objects w (stepping.objects_in operation)) objects) (not-false (stepping.are_made w (stepping.classes_in operation)) classes)))
 
-after-formed : (operations : List op.Op) (w : World) → IsWellFormed w → IsWellFormed (after w operations)
-after-formed [] w formed = formed
-after-formed (operation ∷ operations) w formed = after-formed operations (stepping.step w operation).world (step-formed w operation formed)
-
-pub replay-formed : (operations : List op.Op) → IsWellFormed (replay operations)
-replay-formed operations = after-formed operations opening opening_is_formed
+pub replay-formed : (opened : World) (operations : List op.Op) → IsWellFormed opened → IsWellFormed (replay opened operations)
+replay-formed opened [] formed = formed
+replay-formed opened (operation ∷ operations) formed = replay-formed (stepping.step opened operation).world operations (step-formed opened operation formed)

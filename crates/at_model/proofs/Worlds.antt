@@ -6,12 +6,13 @@ use Rattle.std.proofs.lemmas.List.{get_or-set_same, get_or-set_other, get_or_pas
 use Rattle.std.proofs.lemmas.List.Elements.{All-nil, All-cons, All-head, All-tail, All-weaker}
 use Rattle.at_value.specs.Numbers.{object}
 use Rattle.at_value.specs.Pairs.{with_value, without}
+use Rattle.at_value.proofs.Maps.{put_rising, cut_rising}
 use Rattle.at_value.specs.declared.value.Value as value
 use Rattle.at_value.specs.declared.value.Value.TheVariants as values
 use Rattle.at_value.specs.Widths as widths
 use Rattle.at_model.specs.declared.rows.ClassRow.{ClassRow}
 use Rattle.at_model.specs.declared.rows.Object.{Object}
-use Rattle.at_model.specs.World.{World, Map, row_of, own_of, bases_of, order_of, opening, IsMade, NamesMade, AllNameMade, IsWellFormed}
+use Rattle.at_model.specs.World.{World, Map, row_of, own_of, bases_of, order_of, opening, IsMade, NamesMade, IsNamespace, IsWellFormed}
 use Rattle.at_model.specs.StoredOrders.{AreOrders}
 use Rattle.at_model.proofs.OrderLaws.{acyclic-from_ordered, no_base}
 
@@ -46,6 +47,17 @@ without-all {V} P n (pair ∷ pairs) all =
       | false ↦ All-cons Q pair (without n pairs) (All-head Q pair pairs all) (without-all P n pairs rest)
     ]
 
+-- Namespaces
+
+pub no_names_namespace : (w : World) → IsNamespace w []
+no_names_namespace w = record { rising = tt; named = All-nil (λ (pair : ℕ × value.Value). NamesMade w pair.1) }
+
+pub with_value-namespace : (w : World) (n : ℕ) (v : value.Value) (names : Map) → NamesMade w v → IsNamespace w names → IsNamespace w (with_value n v names)
+with_value-namespace w n v names there is = record { rising = put_rising n v names is.rising; named = with_value-all (NamesMade w) n v names there is.named }
+
+pub without-namespace : (w : World) (n : ℕ) (names : Map) → IsNamespace w names → IsNamespace w (without n names)
+without-namespace w n names is = record { rising = cut_rising n names is.rising; named = without-all (NamesMade w) n names is.named }
+
 -- Growth
 
 -- each class and object of the one world is there in the other
@@ -55,11 +67,19 @@ Grows w v = ((c : ℕ) → IsMade w c → IsMade v c) × (length w.objects ≤ l
 names_made-grows : (w v : World) → Grows w v → (x : value.Value) → NamesMade w x → NamesMade v x
 names_made-grows w v grows (values.Class c) there = grows.0 c there
 names_made-grows w v grows (values.Obj o) there = let more : length w.objects ≤ length v.objects = grows.1 in omega arith
-names_made-grows w v grows x there = tt
+names_made-grows w v grows values.Nothing there = tt
+names_made-grows w v grows (values.Int z) there = tt
+names_made-grows w v grows (values.Text n) there = tt
+names_made-grows w v grows (values.Func f) there = tt
+names_made-grows w v grows (values.Prop p) there = tt
+names_made-grows w v grows (values.Static f) there = tt
+names_made-grows w v grows (values.ClassM f) there = tt
 
-pub all_named-grows : (w v : World) → Grows w v → (names : Map) → AllNameMade w names → AllNameMade v names
-all_named-grows w v grows names all =
-    All-weaker (λ (pair : ℕ × value.Value). NamesMade w pair.1) (λ (pair : ℕ × value.Value). NamesMade v pair.1) (λ pair. names_made-grows w v grows pair.1) names all
+pub namespace-grows : (w v : World) → Grows w v → (names : Map) → IsNamespace w names → IsNamespace v names
+namespace-grows w v grows names is = record {
+  rising = is.rising;
+  named = All-weaker (λ (pair : ℕ × value.Value). NamesMade w pair.1) (λ (pair : ℕ × value.Value). NamesMade v pair.1) (λ pair. names_made-grows w v grows pair.1) names is.named;
+}
 
 -- Classes
 
@@ -87,7 +107,7 @@ grows-with_row w c row below = (
 
 -- A class has this row now: its bases are made and differ, its names are there, and each class has an order still.
 pub formed-with_row : (w : World) (c : ℕ) (row : ClassRow) → IsWellFormed w → c < length w.classes → c ≢ object
-    → ((b : ℕ) → Contains row.bases b → IsMade w b) → IsDistinct nat_eq row.bases → AllNameMade w row.own
+    → ((b : ℕ) → Contains row.bases b → IsMade w b) → IsDistinct nat_eq row.bases → IsNamespace w row.own
     → ((d : ℕ) → IsMade (with_row w c row) d → (order : List ℕ) × (order_of (with_row w c row) d ≡ Some order)) → IsWellFormed (with_row w c row)
 formed-with_row w c row formed below other made apart named ordered =
     let changed = with_row w c row in
@@ -99,11 +119,11 @@ formed-with_row w c row formed below other made apart named ordered =
       distinct = set_each (λ r. IsDistinct nat_eq (bases_of r)) w.classes c (Some row) below apart formed.distinct;
       acyclic = acyclic-from_ordered changed ordered;
       ordered = ordered;
-      named = set_each (λ r. AllNameMade changed (own_of r)) w.classes c (Some row) below (all_named-grows w changed grows row.own named) (λ d. all_named-grows w changed grows (own_of (row_of w.classes d)) (formed.named d));
+      owned = set_each (λ r. IsNamespace changed (own_of r)) w.classes c (Some row) below (namespace-grows w changed grows row.own named) (λ d. namespace-grows w changed grows (own_of (row_of w.classes d)) (formed.owned d));
       few = formed.few;
       placed = All-weaker (λ (o : Object). IsMade w o.class × (o.dict < length w.objects)) (λ (o : Object). IsMade changed o.class × (o.dict < length w.objects)) (λ o there. (grows.0 o.class there.0, there.1)) w.objects formed.placed;
-      kept = formed.kept;
-      held = All-weaker (AllNameMade w) (AllNameMade changed) (all_named-grows w changed grows) w.dicts formed.held;
+      paired = formed.paired;
+      filled = All-weaker (IsNamespace w) (IsNamespace changed) (namespace-grows w changed grows) w.dicts formed.filled;
     }
 
 -- Objects
@@ -114,9 +134,9 @@ with_objects w objects dicts = record w { objects = objects; dicts = dicts }
 -- These are the objects and dictionaries now: no fewer objects, as many dictionaries, and all that is named is there.
 pub formed-with_objects : (w : World) (objects : List Object) (dicts : List Map) → IsWellFormed w → length w.objects ≤ length objects → length objects ≤ widths.objects
     → All (λ (o : Object). IsMade w o.class × (o.dict < length objects)) objects → length dicts ≡ length objects
-    → All (AllNameMade (with_objects w objects dicts)) dicts
+    → All (IsNamespace (with_objects w objects dicts)) dicts
     → IsWellFormed (with_objects w objects dicts)
-formed-with_objects w objects dicts formed more few placed kept held =
+formed-with_objects w objects dicts formed more few placed paired filled =
     let changed = with_objects w objects dicts in
     record {
       numbered = formed.numbered;
@@ -125,11 +145,11 @@ formed-with_objects w objects dicts formed more few placed kept held =
       distinct = formed.distinct;
       acyclic = acyclic-from_ordered changed formed.ordered;
       ordered = formed.ordered;
-      named = λ c. all_named-grows w changed (λ d made. made, more) (own_of (row_of w.classes c)) (formed.named c);
+      owned = λ c. namespace-grows w changed (λ d made. made, more) (own_of (row_of w.classes c)) (formed.owned c);
       few = few;
       placed = placed;
-      kept = kept;
-      held = held;
+      paired = paired;
+      filled = filled;
     }
 
 -- The opening world
@@ -172,9 +192,9 @@ opening_is_formed = record {
   distinct = λ c. subst (IsDistinct nat_eq) (sym (no_bases c)) none_twice;
   acyclic = acyclic-from_ordered opening first_order;
   ordered = first_order;
-  named = λ c. subst (AllNameMade opening) (sym (no_names c)) (All-nil (λ (pair : ℕ × value.Value). NamesMade opening pair.1));
+  owned = λ c. subst (IsNamespace opening) (sym (no_names c)) (no_names_namespace opening);
   few = omega arith;
   placed = All-nil (λ (o : Object). IsMade opening o.class × (o.dict < 0));
-  kept = refl;
-  held = All-nil (AllNameMade opening);
+  paired = refl;
+  filled = All-nil (IsNamespace opening);
 }

@@ -5,7 +5,7 @@ use Rattle.std.specs.List.{IsDistinct}
 use Rattle.at_c3.specs.Laws.{IsSubsequence}
 use Rattle.at_value.specs.declared.operation.Op as op
 use Rattle.at_value.specs.declared.operation.Op.TheVariants as ops
-use Rattle.at_model.specs.World.{World, row_of, bases_of, order_of_row, order_of, IsAboveBy, IsWellFormed}
+use Rattle.at_model.specs.World.{World, row_of, bases_of, order_of_row, order_of, IsAboveBy, IsWellFormed, opening}
 use Rattle.at_model.specs.Step.{step, is_write}
 use Rattle.at_model.specs.History.{replay}
 
@@ -46,9 +46,13 @@ OrdersAreLinearizations = (w : World) (c : ℕ) (order : List ℕ) → order_of 
 abbrev pub StepsKeepWellFormed : Type 0
 StepsKeepWellFormed = (w : World) (operation : op.Op) → IsWellFormed w → IsWellFormed (step w operation).world
 
--- every list of operations leads from the opening world to a well-formed one
+-- every list of operations leads from a well-formed world to a well-formed one
 abbrev pub ReplaysAreWellFormed : Type 0
-ReplaysAreWellFormed = (operations : List op.Op) → IsWellFormed (replay operations)
+ReplaysAreWellFormed = (opened : World) (operations : List op.Op) → IsWellFormed opened → IsWellFormed (replay opened operations)
+
+-- the opening world of scripts is well formed
+abbrev pub OpeningIsWellFormed : Type 0
+OpeningIsWellFormed = IsWellFormed opening
 
 -- an operation that isn't a write leaves the world as it is
 abbrev pub OnlyWritesChangeWorlds : Type 0
@@ -62,7 +66,15 @@ is_read (ops.Super k o n) = true
 is_read (ops.Special o n) = true
 is_read (ops.ClassOf o) = true
 is_read (ops.Mro c) = true
-is_read operation = false
+is_read (ops.NewClass c bases) = false
+is_read (ops.TypeSet c n v) = false
+is_read (ops.TypeDel c n) = false
+is_read (ops.SetBases c bases) = false
+is_read (ops.New c) = false
+is_read (ops.Set o n v) = false
+is_read (ops.Del o n) = false
+is_read (ops.SetClass o c) = false
+is_read (ops.Share o p) = false
 
 -- it is never a write
 abbrev pub ReadsAreNoWrites : Type 0

@@ -17,18 +17,32 @@ use Rattle.at_value.specs.declared.reply.Reply.TheVariants as replies
 use Rattle.at_value.specs.Widths as widths
 use Rattle.at_model.specs.declared.rows.ClassRow.{ClassRow}
 use Rattle.at_model.specs.declared.rows.Object.{Object}
-use Rattle.at_model.specs.World.{World, Map, row_of, own_of, order_of, find_in}
+use Rattle.at_model.specs.World.{World, Map, row_of, row_or_empty, own_of, order_of, find_in}
 use Rattle.at_model.specs.Attributes.{Outcome, unchanged, get_reply, special_reply, super_reply, type_get_reply, class_of_reply, mro_reply, set_effect, del_effect}
 
 -- What an operation names
 
 abbrev pub class_in : value.Value → List ℕ
 class_in (values.Class c) = c ∷ []
-class_in v = []
+class_in values.Nothing = []
+class_in (values.Int z) = []
+class_in (values.Text n) = []
+class_in (values.Func f) = []
+class_in (values.Prop p) = []
+class_in (values.Static f) = []
+class_in (values.ClassM f) = []
+class_in (values.Obj o) = []
 
 abbrev pub object_in : value.Value → List ℕ
 object_in (values.Obj o) = o ∷ []
-object_in v = []
+object_in values.Nothing = []
+object_in (values.Int z) = []
+object_in (values.Text n) = []
+object_in (values.Func f) = []
+object_in (values.Prop p) = []
+object_in (values.Static f) = []
+object_in (values.ClassM f) = []
+object_in (values.Class c) = []
 
 -- the classes that an operation names, as subject, base or value; the class that `NewClass` is to make isn't among them
 abbrev pub classes_in : op.Op → List ℕ
@@ -38,24 +52,33 @@ classes_in (ops.TypeDel c n) = c ∷ []
 classes_in (ops.SetBases c bases) = c ∷ bases
 classes_in (ops.New c) = c ∷ []
 classes_in (ops.Set o n v) = class_in v
+classes_in (ops.Del o n) = []
 classes_in (ops.SetClass o c) = c ∷ []
+classes_in (ops.Share o p) = []
+classes_in (ops.Get o n) = []
 classes_in (ops.TypeGet c n) = c ∷ []
 classes_in (ops.Super k o n) = k ∷ []
+classes_in (ops.Special o n) = []
+classes_in (ops.ClassOf o) = []
 classes_in (ops.Mro c) = c ∷ []
-classes_in operation = []
 
 -- the objects that an operation names, as subject, second object or value
 abbrev pub objects_in : op.Op → List ℕ
+objects_in (ops.NewClass c bases) = []
 objects_in (ops.TypeSet c n v) = object_in v
+objects_in (ops.TypeDel c n) = []
+objects_in (ops.SetBases c bases) = []
+objects_in (ops.New c) = []
 objects_in (ops.Set o n v) = o ∷ object_in v
 objects_in (ops.Del o n) = o ∷ []
 objects_in (ops.SetClass o c) = o ∷ []
 objects_in (ops.Share o p) = o ∷ p ∷ []
 objects_in (ops.Get o n) = o ∷ []
+objects_in (ops.TypeGet c n) = []
 objects_in (ops.Super k o n) = o ∷ []
 objects_in (ops.Special o n) = o ∷ []
 objects_in (ops.ClassOf o) = o ∷ []
-objects_in operation = []
+objects_in (ops.Mro c) = []
 
 abbrev pub is_made : World → ℕ → Bool
 is_made w c = is_some (row_of w.classes c)
@@ -109,9 +132,13 @@ new_class_effect w c bases =
     then unchanged w replies.EmptyBases
     else if has_repeat bases then unchanged w replies.Duplicate else if_ordered w (with_class w c bases)
 
+-- the classes in which c has these bases, and is else as it was
+abbrev pub rebased : List (Option ClassRow) → ℕ → List ℕ → List (Option ClassRow)
+rebased classes c bases = set classes c (Some (record (row_or_empty (row_of classes c)) { bases = bases }))
+
 -- the world in which c has these bases
 abbrev pub with_bases : World → ℕ → List ℕ → World
-with_bases w c bases = record w { classes = set w.classes c (Some (record { bases = bases; own = own_of (row_of w.classes c) })) }
+with_bases w c bases = record w { classes = rebased w.classes c bases }
 
 -- c stands in the order, where there is one
 abbrev pub is_in_order : ℕ → Option (List ℕ) → Bool
@@ -217,11 +244,27 @@ step w operation =
     then unchanged w replies.NoAttr
     else if not (are_made w (classes_in operation)) then unchanged w replies.NoClass else effect w operation
 
--- the reply of a write
+-- whether the reply is that of a write
 abbrev pub is_done : reply.Reply → Bool
 is_done replies.Done = true
 is_done (replies.Made o value) = true
-is_done r = false
+is_done (replies.Value v) = false
+is_done (replies.Method f v) = false
+is_done (replies.Hook kind callee receiver other v) = false
+is_done (replies.Order order) = false
+is_done replies.NoAttr = false
+is_done replies.NoGetter = false
+is_done replies.NoSetter = false
+is_done replies.NoDeleter = false
+is_done replies.NoClass = false
+is_done replies.NameTaken = false
+is_done replies.EmptyBases = false
+is_done replies.Duplicate = false
+is_done replies.Cycle = false
+is_done (replies.NoOrder c) = false
+is_done replies.Immutable = false
+is_done replies.NotSubclass = false
+is_done replies.Full = false
 
 -- the operation is a write at this world
 abbrev pub is_write : World → op.Op → Bool

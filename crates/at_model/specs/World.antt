@@ -4,7 +4,7 @@ use Rattle.std.specs.Prelude.{ℕ, zero, suc, ◌≡◌, ◌<◌, ◌≤◌, ◌
 use Rattle.std.specs.List.{IsDistinct}
 use Rattle.at_c3.specs.Merge.{order_of_lists}
 use Rattle.at_value.specs.Numbers.{object}
-use Rattle.at_value.specs.Pairs.{value_at}
+use Rattle.at_value.specs.Pairs.{value_at, IsRising}
 use Rattle.at_value.specs.declared.value.Value as value
 use Rattle.at_value.specs.declared.value.Value.TheVariants as values
 use Rattle.at_value.specs.Widths as widths
@@ -65,10 +65,16 @@ order_of w c = order_in w.classes c
 
 -- Finding a name
 
--- the names of a class, and none where it isn't made
+-- what is kept of a class, and no base and no name where it isn't made
+abbrev pub row_or_empty : Option ClassRow → ClassRow
+row_or_empty None = record { bases = []; own = [] }
+row_or_empty (Some row) = row
+
 abbrev pub own_of : Option ClassRow → Map
-own_of None = []
-own_of (Some row) = row.own
+own_of row = (row_or_empty row).own
+
+abbrev pub bases_of : Option ClassRow → List ℕ
+bases_of row = (row_or_empty row).bases
 
 abbrev pub or_else : Option value.Value → Option value.Value → Option value.Value
 or_else None second = second
@@ -93,17 +99,13 @@ find_in w c n = find_by w.classes (order_of w c) n
 abbrev pub opening : World
 opening = record { classes = Some (record { bases = []; own = [] }) ∷ replicate (widths.classes - 1) None; objects = []; dicts = [] }
 
-abbrev pub bases_of : Option ClassRow → List ℕ
-bases_of None = []
-bases_of (Some row) = row.bases
-
 abbrev pub IsMade : World → ℕ → Type 0
 IsMade w c = IsTrue (is_some (row_of w.classes c))
 
 abbrev pub IsBase : World → ℕ → ℕ → Type 0
 IsBase w b c = Contains (bases_of (row_of w.classes c)) b
 
--- a stands above c by a chain of at most so many bases
+-- a stands above c by a chain of at most n bases
 abbrev pub IsAboveBy : ℕ → World → ℕ → ℕ → Type 0
 IsAboveBy zero w a c = ⊥
 IsAboveBy (suc n) w a c = (b : ℕ) × IsBase w b c × ((a ≡ b) ⊎ IsAboveBy n w a b)
@@ -112,14 +114,26 @@ IsAboveBy (suc n) w a c = (b : ℕ) × IsBase w b c × ((a ≡ b) ⊎ IsAboveBy 
 abbrev pub NamesMade : World → value.Value → Type 0
 NamesMade w (values.Class c) = IsMade w c
 NamesMade w (values.Obj o) = o < length w.objects
-NamesMade w v = Unit {0}
+NamesMade w values.Nothing = Unit {0}
+NamesMade w (values.Int z) = Unit {0}
+NamesMade w (values.Text n) = Unit {0}
+NamesMade w (values.Func f) = Unit {0}
+NamesMade w (values.Prop p) = Unit {0}
+NamesMade w (values.Static f) = Unit {0}
+NamesMade w (values.ClassM f) = Unit {0}
 
 abbrev pub AllNameMade : World → Map → Type 0
 AllNameMade w names = All (λ (pair : ℕ × value.Value). NamesMade w pair.1) names
 
+-- a map from names to values, by rising name number, whose values name what is there
+pub record IsNamespace (w : World) (names : Map) : Type 0 where
+  pub rising : IsRising names
+  pub named : AllNameMade w names
+
 -- A well-formed world: it has a row for each class number that there may be, and 0 is `object`, without bases and names; each
 -- base, class, object and dictionary that is named is there; no class has a base twice or stands above itself, and each has
--- an order; there are no more objects than there may be, and a dictionary for each.
+-- an order; the own maps and the dictionaries rise by name; there are no more objects than there may be, and a dictionary
+-- for each.
 pub record IsWellFormed (w : World) : Type 0 where
   pub numbered : length w.classes ≡ widths.classes
   pub rooted : row_of w.classes object ≡ Some (record { bases = []; own = [] })
@@ -127,8 +141,8 @@ pub record IsWellFormed (w : World) : Type 0 where
   pub distinct : (c : ℕ) → IsDistinct nat_eq (bases_of (row_of w.classes c))
   pub acyclic : (n c : ℕ) → ¬ IsAboveBy n w c c
   pub ordered : (c : ℕ) → IsMade w c → (order : List ℕ) × (order_of w c ≡ Some order)
-  pub named : (c : ℕ) → AllNameMade w (own_of (row_of w.classes c))
+  pub owned : (c : ℕ) → IsNamespace w (own_of (row_of w.classes c))
   pub few : length w.objects ≤ widths.objects
   pub placed : All (λ (o : Object). IsMade w o.class × (o.dict < length w.objects)) w.objects
-  pub kept : length w.dicts ≡ length w.objects
-  pub held : All (AllNameMade w) w.dicts
+  pub paired : length w.dicts ≡ length w.objects
+  pub filled : All (IsNamespace w) w.dicts

@@ -1,5 +1,5 @@
 //! What is true of every order and of every world. Each function does nothing: its contract is the law.
-ghost use Rattle.at_model.specs.Laws.{OrdersAreMerges, OrdersAreUnique, OrdersAreLinearizations, StepsKeepWellFormed, ReplaysAreWellFormed, OnlyWritesChangeWorlds, ReadsAreNoWrites};
+ghost use Rattle.at_model.specs.Laws.{OrdersAreMerges, OrdersAreUnique, OrdersAreLinearizations, StepsKeepWellFormed, ReplaysAreWellFormed, OnlyWritesChangeWorlds, OpeningIsWellFormed, ReadsAreNoWrites};
 
 /// The order of a class is the class, and then the merge of the orders of its bases and of the list of its bases; in a
 /// well-formed world no other orders are so. An order begins with its class. It has the class and the classes above it,
@@ -17,10 +17,12 @@ pub fn step_keeps_well_formed()
     ensures { StepsKeepWellFormed }
 {}
 
-/// Every list of operations leads from the opening world to a well-formed one: each class, object and dictionary that
-/// is named is there, no list of bases has a repeat, no class stands above itself, and each class has an order.
+/// Every list of operations leads from a well-formed world, such as the opening one, to a well-formed one: each class,
+/// object and dictionary that is named is there, no list of bases has a repeat, no class stands above itself, each class
+/// has an order, and names rise.
 pub fn replay_is_well_formed()
-    ensures { ReplaysAreWellFormed }
+    ensures replay { ReplaysAreWellFormed }
+    ensures opening { OpeningIsWellFormed }
 {}
 
 /// An operation that isn't a write leaves the world as it is: each refusal, and each read, which is never a write.

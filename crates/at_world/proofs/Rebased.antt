@@ -8,9 +8,9 @@ use Rattle.at_model.specs.declared.rows.ClassRow.{ClassRow}
 use Rattle.at_model.specs.declared.rows.Object.{Object}
 use Rattle.at_model.specs.World.{World, Map, row_of, own_of, order_of}
 use Rattle.at_model.specs.Attributes.{Outcome}
-use Rattle.at_model.specs.Step.{is_made, are_made, is_empty, first_unordered_from, first_unordered, unless_unordered, if_ordered, with_bases}
+use Rattle.at_model.specs.Step.{is_made, are_made, is_empty, first_unordered_from, first_unordered, unless_unordered, if_ordered, rebased, with_bases}
 use Rattle.at_world.specs.Plain.{PlainState, IsCoherent, order_or_none}
-use Rattle.at_world.specs.Rebasing.{rebased, AreNewOrders, first_empty}
+use Rattle.at_world.specs.Rebasing.{AreNewOrders, first_empty}
 use Rattle.at_model.proofs.StoredOrders.{ordered-from_none}
 use Rattle.at_world.proofs.Rebasing.{made-rebased}
 

@@ -9,10 +9,10 @@ use Rattle.at_c3.proofs.NumberLemmas.{has}
 use Rattle.at_c3.proofs.RunLemmas.{prefixed-some}
 use Rattle.at_model.specs.declared.rows.ClassRow.{ClassRow}
 use Rattle.at_model.specs.World.{World, row_of, own_of, order_before, all_orders, merged_order, order_of_row, order_within, order_in}
-use Rattle.at_model.specs.Step.{is_in_order, is_empty}
+use Rattle.at_model.specs.Step.{is_in_order, is_empty, rebased}
 use Rattle.at_model.specs.StoredOrders.{AreOrders}
 use Rattle.at_world.specs.Plain.{order_or_none, order_by}
-use Rattle.at_world.specs.Rebasing.{rebased, IsNewOrder, AreNewOrders, AreRenewed, due_row}
+use Rattle.at_world.specs.Rebasing.{IsNewOrder, AreNewOrders, AreRenewed, due_row}
 use Rattle.at_model.proofs.Subsequences.{subsequence-length, subsequence-has}
 use Rattle.at_model.proofs.Orders.{parts_of, orders_kept, order_of_row-kept_parts, order_within-more, made-from_order, not_made, order_begins, has_own_class, rest_order, made_below}
 use Rattle.at_model.proofs.OrderLaws.{orders_are_merges}

@@ -1,13 +1,9 @@
 -- What is known of orders while a class is given other bases.
 use Rattle.std.specs.Prelude.{ℕ, suc, Bool, not, ◌==◌, ◌≡◌, ◌<◌, ◌≤◌, ◌&&◌, false, List, [], ◌∷◌, length, set, Option, Some, None, if◌then◌else◌, IsTrue, is_some, slice_index_or}
 use Rattle.at_model.specs.declared.rows.ClassRow.{ClassRow}
-use Rattle.at_model.specs.World.{row_of, own_of, order_in}
+use Rattle.at_model.specs.World.{row_of, order_in}
 use Rattle.at_model.specs.Step.{has_number, is_empty}
 use Rattle.at_world.specs.Plain.{order_or_none}
-
--- the classes in which c has these bases
-abbrev pub rebased : List (Option ClassRow) → ℕ → List ℕ → List (Option ClassRow)
-rebased classes c bases = set classes c (Some (record { bases = bases; own = own_of (row_of classes c) }))
 
 -- the list of class d is its order, or empty where it has none
 abbrev pub IsNewOrder : List (Option ClassRow) → List (List ℕ) → ℕ → Type 0

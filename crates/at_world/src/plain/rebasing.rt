@@ -8,7 +8,8 @@ ghost use Rattle.at_model.specs.Step as steps;
 ghost use Rattle.at_model.specs.StoredOrders.{AreOrders};
 ghost use Rattle.at_world.specs.Plain.{lists_of};
 ghost use Rattle.at_model.specs.Step.{is_empty};
-ghost use Rattle.at_world.specs.Rebasing.{rebased, AreNewOrders, AreRenewed, is_due, due_row, first_empty};
+ghost use Rattle.at_model.specs.Step.{rebased};
+ghost use Rattle.at_world.specs.Rebasing.{AreNewOrders, AreRenewed, is_due, due_row, first_empty};
 
 use super::classes::has_duplicate;
 use super::orders::{copies_of, is_empty_at, longest_len, order_or_empty, put_order};

@@ -4,9 +4,9 @@ use Rattle.smallvec.specs.SmallVec.{SmallVec}
 use Rattle.at_value.specs.declared.reply.Reply.TheVariants as replies
 use Rattle.at_model.specs.declared.rows.ClassRow.{ClassRow}
 use Rattle.at_model.specs.World.{row_of}
-use Rattle.at_model.specs.Step.{are_made, if_ordered, with_bases}
+use Rattle.at_model.specs.Step.{are_made, if_ordered, rebased, with_bases}
 use Rattle.at_world.specs.Plain.{PlainState, lists_of}
-use Rattle.at_world.specs.Rebasing.{rebased, AreNewOrders, first_empty}
+use Rattle.at_world.specs.Rebasing.{AreNewOrders, first_empty}
 use Rattle.at_world.proofs.Definitions.{refilled}
 use Rattle.at_world.proofs.Rebased.{subject_made, kept_rebased, rebase_refused, rebase_done}
 use Rattle.at_world.proofs.plain.Plain.rebase.Goals as goal

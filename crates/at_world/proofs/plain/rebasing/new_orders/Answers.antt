@@ -2,7 +2,8 @@ use Rattle.std.proofs.Common.{◌≡◌, ◌∙◌, ◌<◌, ap, sym, subst, ari
 use Rattle.std.proofs.lemmas.List.{length-map}
 use Rattle.smallvec.specs.SmallVec.{SmallVec}
 use Rattle.at_world.specs.Plain.{lists_of, order_or_none, order_by}
-use Rattle.at_world.specs.Rebasing.{rebased, AreRenewed}
+use Rattle.at_model.specs.Step.{rebased}
+use Rattle.at_world.specs.Rebasing.{AreRenewed}
 use Rattle.at_world.proofs.Definitions.{refilled, length-lists}
 use Rattle.at_world.proofs.Rebasing.{renewed_first}
 use Rattle.at_world.proofs.plain.rebasing.new_orders.Goals as goal

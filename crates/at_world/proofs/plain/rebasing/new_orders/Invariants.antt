@@ -1,7 +1,8 @@
 use Rattle.std.proofs.Common.{◌≡◌, length}
 use Rattle.at_value.specs.Widths as widths
 use Rattle.at_world.specs.Plain.{lists_of}
-use Rattle.at_world.specs.Rebasing.{rebased, AreRenewed}
+use Rattle.at_model.specs.Step.{rebased}
+use Rattle.at_world.specs.Rebasing.{AreRenewed}
 use Rattle.at_world.proofs.plain.rebasing.new_orders.Given as goal
 
 -- the rounds so far

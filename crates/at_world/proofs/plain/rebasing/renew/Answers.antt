@@ -3,7 +3,8 @@ use Rattle.std.specs.Option.{option_copied}
 use Rattle.std.proofs.lemmas.List.{length-map}
 use Rattle.smallvec.specs.SmallVec.{SmallVec}
 use Rattle.at_world.specs.Plain.{lists_of, order_or_none, order_by}
-use Rattle.at_world.specs.Rebasing.{rebased, due_row, AreRenewed}
+use Rattle.at_model.specs.Step.{rebased}
+use Rattle.at_world.specs.Rebasing.{due_row, AreRenewed}
 use Rattle.at_world.proofs.Rebasing.{renewed_due, renewed_skip, renewed_round}
 use Rattle.at_world.proofs.plain.rebasing.renew.Goals as goal
 use Rattle.at_world.proofs.plain.rebasing.renew.Goals.{in-Some+in_ok-order-in-Some, in-None}

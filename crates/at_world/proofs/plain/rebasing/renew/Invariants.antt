@@ -1,6 +1,7 @@
 use Rattle.std.proofs.Common.{ℕ, List}
 use Rattle.at_world.specs.Plain.{lists_of}
-use Rattle.at_world.specs.Rebasing.{rebased, AreRenewed}
+use Rattle.at_model.specs.Step.{rebased}
+use Rattle.at_world.specs.Rebasing.{AreRenewed}
 use Rattle.at_world.proofs.plain.rebasing.renew.Given as goal
 
 -- the round has come to class i
