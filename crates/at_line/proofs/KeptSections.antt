@@ -1,14 +1,17 @@
 -- Lines of one thread have no writes of others.
-use Rattle.std.proofs.Common.{◌≡◌, ◌≢◌, ◌∙◌, ℕ, eq-eqb, ne_eqb, Bool, List, [], ◌∷◌, ◌++◌, if◌then◌else◌, refl, sym, ap, subst}
+use Rattle.std.proofs.Common.{◌≡◌, ◌∙◌, ℕ, ◌<◌, eq-eqb, Bool, List, [], ◌∷◌, ◌++◌, if◌then◌else◌, length, take, refl, sym, ap, subst}
 use Rattle.std.specs.Prelude.{All}
-use Rattle.std.proofs.lemmas.List.Elements.{All-nil, All-head, All-tail}
-use mathlib.Core.Logic.{dite}
-use native.Mathlib.Decide.{ℕ_discrete}
+use Rattle.std.proofs.lemmas.List.Elements.{All-nil, All-head, All-tail, All-get_or}
+use Rattle.std.proofs.lemmas.Option.{slice_get_within, get_or_from_slice_get}
 use Rattle.at_value.specs.declared.operation.Op as op
 use Rattle.at_line.specs.declared.line.Line.{Line}
+use Rattle.at_line.specs.declared.line.LineOp.TheVariants as line_ops
+use Rattle.at_line.specs.declared.line.LineReply.TheVariants as line_replies
 use Rattle.at_line.specs.declared.line.What as what
+use Rattle.at_line.specs.declared.line.What.TheVariants as whats
+use Rattle.at_model.specs.World.{World}
 use Rattle.at_line.specs.Lines.{write_in, IsHistory}
-use Rattle.at_line.specs.Kept.{whats_of_thread, writes_beside, KeptSection, objects_of, LeavesAlone, IsKept}
+use Rattle.at_line.specs.Kept.{Section, whats_of_thread, writes_beside, open_sections, LeavesAlone, IsLeftAlone, IsKeptEnd, IsKept}
 
 abbrev OfThread : ℕ → Line → Type 0
 OfThread thread line = line.thread ≡ thread
@@ -19,28 +22,27 @@ none_beside thread (line ∷ lines) all =
     ap (λ (b : Bool). if b then writes_beside thread lines else write_in line.what ++ writes_beside thread lines) (eq-eqb line.thread thread (All-head (OfThread thread) line lines all))
     ∙ none_beside thread lines (All-tail (OfThread thread) line lines all)
 
-none_of_other : (thread other : ℕ) (lines : List Line) → other ≢ thread → All (OfThread thread) lines → whats_of_thread other lines ≡ []
-none_of_other thread other [] apart all = refl
-none_of_other thread other (line ∷ lines) apart all =
-    ap (λ (b : Bool). if b then line.what ∷ whats_of_thread other lines else whats_of_thread other lines)
-    (ne_eqb line.thread other (λ same. apart (sym same ∙ All-head (OfThread thread) line lines all)))
-    ∙ none_of_other thread other lines apart (All-tail (OfThread thread) line lines all)
+-- where no other thread writes, each section is left alone
+left_alone : (opened : World) (history : List op.Op) (ended : ℕ) (sections : List Section) → IsLeftAlone opened history ended [] sections
+left_alone opened history ended [] = tt
+left_alone opened history ended (section ∷ sections) = All-nil (LeavesAlone opened history section.begun ended section.objects)
 
-pub never_none : (before more : List what.What) (w : what.What) → [] ≡ before ++ w ∷ more → ⊥
-never_none [] more w same = cc same
-never_none (first ∷ before) more w same = cc same
+kept_end : (opened : World) (history : List op.Op) (sections : List Section) (w : what.What) → IsKeptEnd opened history [] sections w
+kept_end opened history sections (whats.Did place path (line_ops.Of operation) reply) = tt
+kept_end opened history sections (whats.Did place path (line_ops.Begin first second) reply) = tt
+kept_end opened history sections (whats.Did place path line_ops.Finish (line_replies.Of reply)) = tt
+kept_end opened history sections (whats.Did place path line_ops.Finish line_replies.Kept) = left_alone opened history place.0 sections
+kept_end opened history sections (whats.Did place path line_ops.Finish (line_replies.Suspended times)) = tt
+kept_end opened history sections (whats.Local local) = tt
 
-no_section : (whats : List what.What) → whats ≡ [] → KeptSection whats → ⊥
-no_section whats none section = never_none section.before _ _ (sym none ∙ section.stands)
-
-pub one_thread_kept : (thread : ℕ) (lines : List Line) (history : List op.Op) → All (λ (line : Line). line.thread ≡ thread) lines → IsHistory lines history → IsKept lines
-one_thread_kept thread lines history all places = record {
+pub one_thread_kept : (opened : World) (thread : ℕ) (lines : List Line) (history : List op.Op) → All (λ (line : Line). line.thread ≡ thread) lines → IsHistory lines history → IsKept opened lines
+one_thread_kept opened thread lines history all places = record {
   history = history;
   places = places;
-  left_alone = λ other section.
-      dite (ℕ_discrete other thread)
-      (λ (same : other ≡ thread).
-      let P : ℕ × op.Op → Type 0 = LeavesAlone history section.begun.0 section.ended.0 (objects_of section.first section.second) in
-      subst (λ (t : ℕ). All P (writes_beside t lines)) (sym same) (subst (λ ws. All P ws) (sym (none_beside thread lines all)) (All-nil P)))
-      (λ (apart : other ≢ thread). absurd (no_section (whats_of_thread other lines) (none_of_other thread other lines apart all) section));
+  left_alone = λ i line at.
+      let within : i < length lines = slice_get_within lines i line at in
+      let is : line.thread ≡ thread = subst (OfThread thread) (get_or_from_slice_get lines i line line at) (All-get_or (OfThread thread) lines i line within all) in
+      let none : writes_beside line.thread lines ≡ [] = ap (λ (t : ℕ). writes_beside t lines) is ∙ none_beside thread lines all in
+      let sections : List Section = open_sections [] (whats_of_thread line.thread (take i lines)) in
+      subst (λ ws. IsKeptEnd opened history ws sections line.what) (sym none) (kept_end opened history sections line.what);
 }

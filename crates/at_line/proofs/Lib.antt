@@ -1,4 +1,6 @@
+pub mod Each
 pub mod Histories
 pub mod Serials
+mod Placed
 mod KeptSections
 mod LineChecks

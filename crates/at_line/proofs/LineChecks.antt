@@ -1,16 +1,17 @@
 -- Checks that lines which are written out pass where their places rise and their threads are in turn.
 use Rattle.std.proofs.Common.{◌≡◌, ◌∙◌, eq-eqb, inl, inr, ℕ, ◌<◌, ◌≤◌, ◌==◌, cond, leb, ltb, not, ◌&&◌, ◌||◌, Bool, true, false, List, [], ◌∷◌, refl, sym, arith}
 use Rattle.std.specs.List.{list_all}
-use Rattle.std.specs.Prelude.{All}
+use Rattle.std.specs.Prelude.{All, AllPairs}
 use Rattle.std.proofs.lemmas.Bool.{and_parts, or_cases, leb-true, ltb-true, true≢false}
 use Rattle.std.proofs.lemmas.Bool.Decides.{nat_tests}
-use Rattle.std.proofs.lemmas.List.Elements.{All-nil, All-cons, All-contains}
+use Rattle.std.proofs.lemmas.List.Elements.{All-nil, All-cons}
 use Rattle.std.proofs.lemmas.List.Kept.{AllPairs-cons}
 use Rattle.at_line.specs.declared.line.Line.{Line}
 use Rattle.at_line.specs.declared.line.What as what
 use Rattle.at_line.specs.declared.line.What.TheVariants as whats
-use Rattle.at_line.specs.Lines.{is_write_line}
-use Rattle.at_line.specs.Legal.{IsPlacedAfter, IsPlacedAfterInThread, IsPlacedFrom, RunsAfter, AreRising, AreInTurn}
+use Rattle.at_line.specs.Lines.{main_thread, finally_thread, is_write_line}
+use Rattle.at_line.specs.Legal.{IsPlacedAfter, IsPlacedAfterInThread, IsPlacedFrom, RunsAfter, IsInTurn, AreRising, AreInTurn}
+use Rattle.at_line.proofs.Each.{each_after-from_pairs}
 
 -- where each element passes a test that tells P, P holds of each
 all_tested : (P : Line → Type 0) (test : Line → Bool) → ((line : Line) → test line ≡ true → P line) → (lines : List Line) → list_all test lines ≡ true → All P lines
@@ -51,11 +52,14 @@ abbrev pub all_rise : List Line → Bool
 all_rise [] = true
 all_rise (line ∷ lines) = list_all (rises line) lines && all_rise lines
 
-pub are_rising : (lines : List Line) → all_rise lines ≡ true → AreRising lines
-are_rising [] passed = λ i j d before within. absurd (omega arith)
-are_rising (line ∷ lines) passed =
+pairs_rise : (lines : List Line) → all_rise lines ≡ true → AllPairs IsPlacedAfterInThread lines
+pairs_rise [] passed = λ i j d before within. absurd (omega arith)
+pairs_rise (line ∷ lines) passed =
     let both = and_parts (list_all (rises line) lines) (all_rise lines) passed in
-    AllPairs-cons IsPlacedAfterInThread line lines (all_tested (IsPlacedAfterInThread line) (rises line) (rises_tells line) lines both.0) (are_rising lines both.1)
+    AllPairs-cons IsPlacedAfterInThread line lines (all_tested (IsPlacedAfterInThread line) (rises line) (rises_tells line) lines both.0) (pairs_rise lines both.1)
+
+pub are_rising : (lines : List Line) → all_rise lines ≡ true → AreRising lines
+are_rising lines passed = each_after-from_pairs IsPlacedAfterInThread lines (pairs_rise lines passed)
 
 -- Threads in turn
 
@@ -71,7 +75,7 @@ placed_from_tells (whats.Did first first_path first_operation first_reply) (what
 
 -- the second thread doesn't wait for the first
 abbrev pub runs_beside : ℕ → ℕ → Bool
-runs_beside first second = (second == 0) || ((first == 33) || not ((first == 0) || (second == 33)))
+runs_beside first second = (second == main_thread) || ((first == finally_thread) || not ((first == main_thread) || (second == finally_thread)))
 
 runs_beside_tells : (first second : ℕ) → runs_beside first second ≡ true → RunsAfter first second → ⊥
 runs_beside_tells first second passed after = grind (arith, nat_tests)
@@ -87,10 +91,9 @@ in_turn_tells first second passed after =
     ]
 
 abbrev InTurn : Line → Line → Type 0
-InTurn first second = RunsAfter first.thread second.thread → IsPlacedFrom first.what second.what
+InTurn second first = RunsAfter first.thread second.thread → IsPlacedFrom first.what second.what
 
-pub are_in_turn : (lines : List Line) → list_all (λ first. list_all (in_turn first) lines) lines ≡ true → AreInTurn lines
-are_in_turn lines passed first second has_first has_second =
-    let from_first = All-contains (λ line. All (InTurn line) lines) lines first
-    (all_tested (λ line. All (InTurn line) lines) (λ line. list_all (in_turn line) lines) (λ line all. all_tested (InTurn line) (in_turn line) (in_turn_tells line) lines all) lines passed) has_first in
-    All-contains (InTurn first) lines second from_first has_second
+pub are_in_turn : (lines : List Line) → list_all (λ second. list_all (λ first. in_turn first second) lines) lines ≡ true → AreInTurn lines
+are_in_turn lines passed =
+    all_tested (IsInTurn lines) (λ second. list_all (λ first. in_turn first second) lines)
+    (λ second all. all_tested (InTurn second) (λ first. in_turn first second) (λ first one. in_turn_tells first second one) lines all) lines passed

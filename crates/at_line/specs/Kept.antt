@@ -1,18 +1,15 @@
 -- Kept sections: while a section over some objects is kept, no other thread writes these objects.
-use Rattle.std.specs.Prelude.{ℕ, zero, suc, ◌≡◌, ◌<◌, ◌≤◌, ◌==◌, List, [], ◌∷◌, ◌++◌, Option, Some, None, option_to_list, slice_get, if◌then◌else◌, All, Contains}
+use Rattle.std.specs.Prelude.{ℕ, ◌<◌, ◌≤◌, ◌==◌, List, [], ◌∷◌, ◌++◌, Option, Some, None, option_to_list, slice_get, if◌then◌else◌, All, Contains}
 use Rattle.at_value.specs.declared.operation.Op as op
 use Rattle.at_value.specs.declared.operation.Op.TheVariants as ops
-use Rattle.at_value.specs.declared.reply.Place.{Place}
-use Rattle.at_value.specs.declared.reply.Path as path
 use Rattle.at_line.specs.declared.line.Line.{Line}
 use Rattle.at_line.specs.declared.line.LineOp.TheVariants as line_ops
-use Rattle.at_line.specs.declared.line.LineReply as line_reply
 use Rattle.at_line.specs.declared.line.LineReply.TheVariants as line_replies
 use Rattle.at_line.specs.declared.line.What as what
 use Rattle.at_line.specs.declared.line.What.TheVariants as whats
 use Rattle.at_model.specs.declared.rows.Object.{Object}
 use Rattle.at_model.specs.World.{World}
-use Rattle.at_line.specs.Lines.{IsHistory, write_in}
+use Rattle.at_line.specs.Lines.{EachAfter, IsHistory, write_in}
 use Rattle.at_line.specs.Legal.{world_before}
 
 -- Rows
@@ -25,11 +22,21 @@ with_dict_name o (Some found) = o ∷ found.dict ∷ []
 -- The rows that a write touches: for `o.x = v` and `del o.x` the object and the dictionary that it names, for
 -- `o.__class__ = c` the object, for `o.__dict__ = p.__dict__` both objects, and for other operations none.
 abbrev pub rows_of : World → op.Op → List ℕ
+rows_of w (ops.NewClass c bases) = []
+rows_of w (ops.TypeSet c n v) = []
+rows_of w (ops.TypeDel c n) = []
+rows_of w (ops.SetBases c bases) = []
+rows_of w (ops.New c) = []
 rows_of w (ops.Set o n v) = with_dict_name o (slice_get w.objects o)
 rows_of w (ops.Del o n) = with_dict_name o (slice_get w.objects o)
 rows_of w (ops.SetClass o c) = o ∷ []
 rows_of w (ops.Share o p) = o ∷ p ∷ []
-rows_of w operation = []
+rows_of w (ops.Get o n) = []
+rows_of w (ops.TypeGet c n) = []
+rows_of w (ops.Super k o n) = []
+rows_of w (ops.Special o n) = []
+rows_of w (ops.ClassOf o) = []
+rows_of w (ops.Mro c) = []
 
 -- Sections
 
@@ -43,43 +50,54 @@ abbrev pub writes_beside : ℕ → List Line → List (ℕ × op.Op)
 writes_beside thread [] = []
 writes_beside thread (line ∷ lines) = if line.thread == thread then writes_beside thread lines else write_in line.what ++ writes_beside thread lines
 
--- Where so many sections are open, these lines end each of them and each that they begin, and no other.
-abbrev pub EndsAll : ℕ → List what.What → Type 0
-EndsAll zero [] = Unit {0}
-EndsAll (suc opened) [] = ⊥
-EndsAll opened (whats.Did place path (line_ops.Begin o other) reply ∷ more) = EndsAll (suc opened) more
-EndsAll zero (whats.Did place path line_ops.Finish reply ∷ more) = ⊥
-EndsAll (suc opened) (whats.Did place path line_ops.Finish reply ∷ more) = EndsAll opened more
-EndsAll opened (w ∷ more) = EndsAll opened more
+-- a section: the place at which it began, and its objects
+pub record Section : Type 0 where
+  pub begun : ℕ
+  pub objects : List ℕ
 
--- A section that was kept, in the lines of its thread: an end that replies `Kept` belongs to the nearest begin before it
--- that no other end belongs to, so the lines between the two end each section that they begin.
-pub record KeptSection (thread_lines : List what.What) : Type 0 where
-  pub first : ℕ
-  pub second : Option ℕ
-  pub begun : Place
-  pub ended : Place
-  pub begin_path : path.Path
-  pub end_path : path.Path
-  pub begin_reply : line_reply.LineReply
-  pub before : List what.What
-  pub between : List what.What
-  pub after : List what.What
-  pub stands : thread_lines ≡ before ++ whats.Did begun begin_path (line_ops.Begin first second) begin_reply ∷ (between ++ whats.Did ended end_path line_ops.Finish line_replies.Kept ∷ after)
-  pub closed : EndsAll 0 between
+-- the sections around the innermost
+abbrev pub around : List Section → List Section
+around [] = []
+around (section ∷ sections) = sections
 
--- the objects of the section
-abbrev pub objects_of : ℕ → Option ℕ → List ℕ
-objects_of first second = first ∷ option_to_list second
+-- The sections that are open after a line of a thread, the innermost first: a begin opens one, and an end closes the one
+-- whose begin is the nearest that no other end belongs to.
+abbrev pub open_after : List Section → what.What → List Section
+open_after sections (whats.Did place path (line_ops.Of operation) reply) = sections
+open_after sections (whats.Did place path (line_ops.Begin first second) reply) = (record { begun = place.0; objects = first ∷ option_to_list second }) ∷ sections
+open_after sections (whats.Did place path line_ops.Finish reply) = around sections
+open_after sections (whats.Local local) = sections
+
+abbrev pub open_sections : List Section → List what.What → List Section
+open_sections sections [] = sections
+open_sections sections (w ∷ more) = open_sections (open_after sections w) more
 
 -- a write at a place after the begin and up to the end touches none of the objects
-abbrev pub LeavesAlone : List op.Op → ℕ → ℕ → List ℕ → ℕ × op.Op → Type 0
-LeavesAlone history begun ended objects write =
-    begun < write.0 → write.0 ≤ ended → (o : ℕ) → Contains objects o → ¬ Contains (rows_of (world_before history write.0) write.1) o
+abbrev pub LeavesAlone : World → List op.Op → ℕ → ℕ → List ℕ → ℕ × op.Op → Type 0
+LeavesAlone opened history begun ended objects write =
+    begun < write.0 → write.0 ≤ ended → (o : ℕ) → Contains objects o → ¬ Contains (rows_of (world_before opened history write.0) write.1) o
+
+-- the innermost of the open sections was left alone up to its end by these writes
+abbrev pub IsLeftAlone : World → List op.Op → ℕ → List (ℕ × op.Op) → List Section → Type 0
+IsLeftAlone opened history ended beside [] = Unit {0}
+IsLeftAlone opened history ended beside (section ∷ sections) = All (LeavesAlone opened history section.begun ended section.objects) beside
+
+-- an end that replied `Kept` belongs to a section that the writes of other threads left alone
+abbrev pub IsKeptEnd : World → List op.Op → List (ℕ × op.Op) → List Section → what.What → Type 0
+IsKeptEnd opened history beside sections (whats.Did place path (line_ops.Of operation) reply) = Unit {0}
+IsKeptEnd opened history beside sections (whats.Did place path (line_ops.Begin first second) reply) = Unit {0}
+IsKeptEnd opened history beside sections (whats.Did place path line_ops.Finish (line_replies.Of reply)) = Unit {0}
+IsKeptEnd opened history beside sections (whats.Did place path line_ops.Finish line_replies.Kept) = IsLeftAlone opened history place.0 beside sections
+IsKeptEnd opened history beside sections (whats.Did place path line_ops.Finish (line_replies.Suspended times)) = Unit {0}
+IsKeptEnd opened history beside sections (whats.Local local) = Unit {0}
+
+-- The section that a line ends was kept, where the line says so: after the lines before it, among all lines.
+abbrev pub IsKeptLine : World → List op.Op → List Line → List Line → Line → Type 0
+IsKeptLine opened history lines before line =
+    IsKeptEnd opened history (writes_beside line.thread lines) (open_sections [] (whats_of_thread line.thread before)) line.what
 
 -- Each section whose end replied `Kept` was kept: the writes of the other threads leave its objects alone.
-pub record IsKept (lines : List Line) : Type 0 where
+pub record IsKept (opened : World) (lines : List Line) : Type 0 where
   pub history : List op.Op
   pub places : IsHistory lines history
-  pub left_alone : (thread : ℕ) (section : KeptSection (whats_of_thread thread lines))
-      → All (LeavesAlone history section.begun.0 section.ended.0 (objects_of section.first section.second)) (writes_beside thread lines)
+  pub left_alone : EachAfter (IsKeptLine opened history lines) lines

@@ -1,13 +1,14 @@
 -- The laws of histories and of legal lines.
-use Rattle.std.specs.Prelude.{ℕ, ◌≡◌, List, [], length, map, All}
+use Rattle.std.specs.Prelude.{ℕ, ◌≡◌, ◌↔◌, List, [], length, map, All}
 use Rattle.at_value.specs.declared.limits.Limits.{Limits}
 use Rattle.at_value.specs.declared.operation.Op as op
 use Rattle.at_line.specs.declared.line.Line.{Line}
+use Rattle.at_model.specs.World.{World}
 use Rattle.at_model.specs.History.{IsProper}
 use Rattle.at_line.specs.Lines.{what_of, write_count, IsHistory}
-use Rattle.at_line.specs.Legal.{IsLegal, IsKeptAlone, ArePathsAllowed}
+use Rattle.at_line.specs.Legal.{IsLinearized, IsKeptAlone, AreWritesPlaced}
 use Rattle.at_line.specs.Kept.{IsKept}
-use Rattle.at_line.specs.Serial.{IsSerial, NamesNoLimit}
+use Rattle.at_line.specs.Serial.{IsSerial, NamesNoLimit, AreInOrder}
 
 -- lines have one history
 abbrev pub HistoriesAreUnique : Type 0
@@ -17,18 +18,28 @@ HistoriesAreUnique = (lines : List Line) (first second : List op.Op) → IsHisto
 abbrev pub HistoriesCountWrites : Type 0
 HistoriesCountWrites = (lines : List Line) (history : List op.Op) → IsHistory lines history → length history ≡ write_count lines
 
--- the history of a legal list is proper
-abbrev pub LegalHistoriesAreProper : Type 0
-LegalHistoriesAreProper = (limits : Limits) (lines : List Line) (legal : IsLegal limits lines) → IsProper legal.history
+-- they have one exactly where each write has a place of its own, from 1 up to their count
+abbrev pub PlacedWritesAreHistories : Type 0
+PlacedWritesAreHistories = (lines : List Line) → AreWritesPlaced lines ↔ ((history : List op.Op) × IsHistory lines history)
 
--- The lines of one thread, each at the end of the history so far, are legal under any limits, where none names a limit,
--- the paths are allowed, and the sections of a thread that runs alone are kept. Their history is what they lead to.
-abbrev pub SerialLinesAreLegal : Type 0
-SerialLinesAreLegal =
-    (limits : Limits) (thread : ℕ) (lines : List Line) (history : List op.Op) → All (λ (line : Line). line.thread ≡ thread) lines → IsSerial [] (map what_of lines) history
-    → All (λ (line : Line). NamesNoLimit line.what) lines → ArePathsAllowed lines → All (λ (line : Line). IsKeptAlone line.thread line.what) lines
-    → (legal : IsLegal limits lines) × (legal.history ≡ history)
+-- the history of a linearized list is proper
+abbrev pub LegalHistoriesAreProper : Type 0
+LegalHistoriesAreProper = (opened : World) (limits : Limits) (lines : List Line) (linearized : IsLinearized opened limits lines) → IsProper opened linearized.history
+
+-- Lines of threads in their order, each at the end of the history so far, are linearized under any limits, where none names
+-- a limit and the sections of a thread that runs alone are kept. Their history is what they lead to.
+abbrev pub SerialLinesAreLinearized : Type 0
+SerialLinesAreLinearized =
+    (opened : World) (limits : Limits) (lines : List Line) (history : List op.Op) → AreInOrder lines → IsSerial opened [] (map what_of lines) history
+    → All (λ (line : Line). NamesNoLimit line.what) lines → All (λ (line : Line). IsKeptAlone line.thread line.what) lines
+    → (linearized : IsLinearized opened limits lines) × (linearized.history ≡ history)
+
+-- the lines of one thread are in order
+abbrev pub OneThreadIsInOrder : Type 0
+OneThreadIsInOrder = (thread : ℕ) (lines : List Line) → All (λ (line : Line). line.thread ≡ thread) lines → AreInOrder lines
 
 -- the sections of lines of one thread are kept: no other thread writes
 abbrev pub OneThreadIsKept : Type 0
-OneThreadIsKept = (thread : ℕ) (lines : List Line) (history : List op.Op) → All (λ (line : Line). line.thread ≡ thread) lines → IsHistory lines history → IsKept lines
+OneThreadIsKept =
+    (opened : World) (thread : ℕ) (lines : List Line) (history : List op.Op) → All (λ (line : Line). line.thread ≡ thread) lines → IsHistory lines history
+    → IsKept opened lines

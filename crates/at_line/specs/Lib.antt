@@ -1,4 +1,5 @@
 pub mod Lines
+pub mod Paths
 pub mod Legal
 pub mod Kept
 pub mod Serial

@@ -7,6 +7,7 @@ use Rattle.at_value.specs.declared.operation.Op.TheVariants as ops
 use Rattle.at_value.specs.declared.reply.Reply as reply
 use Rattle.at_value.specs.declared.reply.Reply.TheVariants as replies
 use Rattle.at_value.specs.declared.reply.Path as path
+use Rattle.at_value.specs.declared.reply.Miss.TheVariants as misses
 use Rattle.at_value.specs.declared.reply.Path.TheVariants as paths
 use Rattle.at_line.specs.declared.line.Line.{Line}
 use Rattle.at_line.specs.declared.line.LineOp.TheVariants as line_ops
@@ -138,6 +139,21 @@ worn_too_early = set legal_lines 9 (line_in 2 4 (whats.Local (locals.Worn 4)))
 abbrev pub worn_too_far : List Line
 worn_too_far = set legal_lines 9 (line_in 2 4 (whats.Local (locals.Worn 46)))
 
--- a read that went the fast way
+-- a read that went without a lock
 abbrev pub read_without_locks : List Line
 read_without_locks = set legal_lines 10 (line_in finally_thread 1 (does_by paths.Fast 4 gets_five seven))
+
+-- Ways
+
+-- operations with ways that they may go where reads and writes go without locks
+abbrev pub ways_there : List (op.Op × path.Path)
+ways_there =
+    (gets_five, paths.Fast) ∷ (gets_five, paths.Slow (misses.Dict 0 4)) ∷ (gets_five, paths.Slow (misses.Moved 0 3 4)) ∷ (sets_five, paths.Slow (misses.Keyless 1 5))
+    ∷ (ops.TypeGet 1 5, paths.Slow (misses.Untagged 1)) ∷ (ops.ClassOf 0, paths.Slow (misses.Odd 0 3)) ∷ (makes_class, paths.Locked) ∷ (ops.Mro 1, paths.Locked) ∷ []
+
+-- and with ways that they don't go there
+abbrev pub ways_not_there : List (op.Op × path.Path)
+ways_not_there =
+    (gets_five, paths.Locked) ∷ (gets_five, paths.Slow (misses.Keyless 1 5)) ∷ (sets_five, paths.Locked) ∷ (ops.Del 0 5, paths.Slow (misses.Keyless 1 5))
+    ∷ (ops.Special 0 5, paths.Slow (misses.Dict 0 4)) ∷ (ops.ClassOf 0, paths.Slow (misses.Untagged 1)) ∷ (makes_class, paths.Fast) ∷ (ops.Mro 1, paths.Fast)
+    ∷ (ops.Super 1 0 5, paths.Slow (misses.Untagged 1)) ∷ []

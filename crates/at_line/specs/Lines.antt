@@ -1,5 +1,5 @@
 -- The lines of a run: which of them are writes, and the history that their writes make.
-use Rattle.std.specs.Prelude.{ℕ, zero, suc, ◌≡◌, ◌==◌, Bool, false, List, [], ◌∷◌, ◌++◌, length, option_to_list, if◌then◌else◌, slice_get}
+use Rattle.std.specs.Prelude.{ℕ, zero, suc, ◌≡◌, ◌==◌, Bool, false, List, [], ◌∷◌, ◌++◌, length, take, Some, option_to_list, if◌then◌else◌, slice_get}
 use Rattle.at_value.specs.declared.operation.Op as op
 use Rattle.at_line.specs.declared.line.Line.{Line}
 use Rattle.at_line.specs.declared.line.LineOp.TheVariants as line_ops
@@ -9,33 +9,46 @@ use Rattle.at_line.specs.declared.line.What as what
 use Rattle.at_line.specs.declared.line.What.TheVariants as whats
 use Rattle.at_model.specs.Step.{is_done}
 
--- The threads of lines: `main` is thread 0, 1 to 32 are the threads of the script, and `finally` is thread 33.
+-- The threads of lines: `main` is thread 0, the threads of the script are numbered from 1, and `finally` has the number
+-- after the most of them.
 abbrev pub main_thread : ℕ
 main_thread = 0
 
+abbrev pub most_threads : ℕ
+most_threads = 32
+
 abbrev pub finally_thread : ℕ
-finally_thread = 33
+finally_thread = suc most_threads
 
 abbrev pub what_of : Line → what.What
 what_of line = line.what
 
+-- each element of a list with those before it
+abbrev pub EachAfter : {X : Type 0} → (List X → X → Type 0) → List X → Type 0
+EachAfter {X} P xs = (i : ℕ) (x : X) → slice_get xs i ≡ Some x → P (take i xs) x
+
 -- Writes
 
--- the reply of a write: `Done`, or `Made`
+-- whether the reply is that of a write: `Done`, or `Made`
 abbrev pub is_write_reply : line_reply.LineReply → Bool
 is_write_reply (line_replies.Of reply) = is_done reply
-is_write_reply reply = false
+is_write_reply line_replies.Kept = false
+is_write_reply (line_replies.Suspended times) = false
 
 -- A line is a write where it is of an operation and has the reply of a write. The begin and the end of a section change
 -- no world and are no writes, and a local line is none.
 abbrev pub is_write_line : what.What → Bool
 is_write_line (whats.Did place path (line_ops.Of operation) reply) = is_write_reply reply
-is_write_line w = false
+is_write_line (whats.Did place path (line_ops.Begin first second) reply) = false
+is_write_line (whats.Did place path line_ops.Finish reply) = false
+is_write_line (whats.Local local) = false
 
 -- the place and the operation of a write, and nothing of another line
 abbrev pub write_in : what.What → List (ℕ × op.Op)
 write_in (whats.Did place path (line_ops.Of operation) reply) = if is_write_reply reply then (place.0, operation) ∷ [] else []
-write_in w = []
+write_in (whats.Did place path (line_ops.Begin first second) reply) = []
+write_in (whats.Did place path line_ops.Finish reply) = []
+write_in (whats.Local local) = []
 
 abbrev pub writes : List Line → List (ℕ × op.Op)
 writes [] = []

@@ -1,15 +1,19 @@
 //! Lists of lines that are legal or not, each by the part that decides it.
-ghost use Rattle.std.specs.Prelude.{ℕ, List};
+ghost use Rattle.std.specs.Prelude.{◌≡◌, ℕ, List, true, false};
+ghost use Rattle.std.specs.List.{list_all, list_any};
 ghost use Rattle.at_value.specs.declared.operation.Op as op;
 ghost use Rattle.at_line.specs.Lines.{IsHistory};
-ghost use Rattle.at_line.specs.Legal.{IsLegal, AreWritesTrue, AreReadsTrue, AreRising, AreInTurn, AreLimitsMet, ArePathsAllowed};
+ghost use Rattle.at_model.specs.World.{opening};
+ghost use Rattle.at_line.specs.Legal.{IsLinearized, AreWritesTrue, AreReadsTrue, AreRising, AreInTurn, AreLimitsMet};
+ghost use Rattle.at_line.specs.Paths.{AreLocked, is_shared_way};
 ghost use Rattle.at_line.specs.Kept.{IsKept};
 ghost use Rattle.at_line.specs.KeptExamples.{other_written, written_once_ended, object_written, dictionary_written, inner_written, outer_written};
-ghost use Rattle.at_line.specs.LineExamples.{example_limits, legal_lines, legal_history, place_twice, place_left_out, other_object_made, refused_write_done, refused_write_history, read_past_the_end, reply_of_the_place_before, suspended_in_main, place_falls, write_at_a_place_read, thread_before_main, finally_before_thread, full_too_early, full_past_the_end, worn_too_early, worn_too_far, read_without_locks};
+ghost use Rattle.at_line.specs.LineExamples.{example_limits, legal_lines, legal_history, place_twice, place_left_out, other_object_made, refused_write_done, refused_write_history, read_past_the_end, reply_of_the_place_before, suspended_in_main, place_falls, write_at_a_place_read, thread_before_main, finally_before_thread, full_too_early, full_past_the_end, worn_too_early, worn_too_far, read_without_locks, ways_there, ways_not_there};
 
-/// A list of lines of `main`, two threads and `finally` that is legal.
+/// A list of lines of `main`, two threads and `finally` that is linearized, all of them under locks.
 pub fn legal_example()
-    ensures { IsLegal example_limits legal_lines }
+    ensures linearized { IsLinearized opening example_limits legal_lines }
+    ensures locked { AreLocked legal_lines }
 {}
 
 /// Lists whose writes are no history: a place stands twice, or is left out.
@@ -21,11 +25,11 @@ pub fn lists_without_history()
 /// Lists with a history, in which a reply is wrong: of a write, of a read, or of the end of a section of `main`.
 pub fn lists_with_wrong_replies()
     ensures histories { IsHistory other_object_made legal_history × IsHistory refused_write_done refused_write_history × IsHistory read_past_the_end legal_history × IsHistory reply_of_the_place_before legal_history × IsHistory suspended_in_main legal_history }
-    ensures made { ¬ AreWritesTrue legal_history other_object_made }
-    ensures done { ¬ AreWritesTrue refused_write_history refused_write_done }
-    ensures past { ¬ AreReadsTrue legal_history read_past_the_end }
-    ensures before { ¬ AreReadsTrue legal_history reply_of_the_place_before }
-    ensures suspended { ¬ AreReadsTrue legal_history suspended_in_main }
+    ensures made { ¬ AreWritesTrue opening legal_history other_object_made }
+    ensures done { ¬ AreWritesTrue opening refused_write_history refused_write_done }
+    ensures past { ¬ AreReadsTrue opening legal_history read_past_the_end }
+    ensures before { ¬ AreReadsTrue opening legal_history reply_of_the_place_before }
+    ensures suspended { ¬ AreReadsTrue opening legal_history suspended_in_main }
 {}
 
 /// Lists in which places fall, or threads are out of turn.
@@ -36,26 +40,32 @@ pub fn lists_with_wrong_places()
     ensures finally { ¬ AreInTurn finally_before_thread }
 {}
 
-/// Lists in which a limit is named that wasn't met, or an operation went a way that isn't allowed.
+/// Lists in which a limit is named that wasn't met, or an operation went without a lock.
 pub fn lists_with_wrong_limits_and_paths()
     ensures full_early { ¬ AreLimitsMet example_limits full_too_early }
     ensures full_far { ¬ AreLimitsMet example_limits full_past_the_end }
     ensures worn_early { ¬ AreLimitsMet example_limits worn_too_early }
     ensures worn_far { ¬ AreLimitsMet example_limits worn_too_far }
-    ensures path { ¬ ArePathsAllowed read_without_locks }
+    ensures path { ¬ AreLocked read_without_locks }
+{}
+
+/// Ways that operations go where reads and writes go without locks, and ways that they don't go there.
+pub fn ways_of_operations()
+    ensures there { list_all (λ w. is_shared_way w.0 w.1) ways_there ≡ true }
+    ensures not_there { list_any (λ w. is_shared_way w.0 w.1) ways_not_there ≡ false }
 {}
 
 /// Lists with sections that are kept, while another thread writes another object, or an object whose section has ended.
 pub fn kept_examples()
-    ensures other { IsKept other_written }
-    ensures ended { IsKept written_once_ended }
+    ensures other { IsKept opening other_written }
+    ensures ended { IsKept opening written_once_ended }
 {}
 
 /// Lists with a section that replied that it was kept, while another thread wrote its object: the object itself, the
 /// dictionary that it names, the object of the section that an end belongs to among two that nest.
 pub fn lists_with_broken_sections()
-    ensures object { ¬ IsKept object_written }
-    ensures dictionary { ¬ IsKept dictionary_written }
-    ensures inner { ¬ IsKept inner_written }
-    ensures outer { ¬ IsKept outer_written }
+    ensures object { ¬ IsKept opening object_written }
+    ensures dictionary { ¬ IsKept opening dictionary_written }
+    ensures inner { ¬ IsKept opening inner_written }
+    ensures outer { ¬ IsKept opening outer_written }
 {}

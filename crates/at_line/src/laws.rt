@@ -1,17 +1,20 @@
 //! What is true of lists of lines and of their histories. Each function does nothing: its contract is the law.
-ghost use Rattle.at_line.specs.Laws.{HistoriesAreUnique, HistoriesCountWrites, LegalHistoriesAreProper, OneThreadIsKept, SerialLinesAreLegal};
+ghost use Rattle.at_line.specs.Laws.{HistoriesAreUnique, HistoriesCountWrites, PlacedWritesAreHistories, LegalHistoriesAreProper, OneThreadIsInOrder, OneThreadIsKept, SerialLinesAreLinearized};
 
-/// Lines of one thread that were each done at the end of the history so far are legal, whatever the limits, where none of
-/// them names a limit, their paths are allowed, and the sections of a thread that runs alone are kept. The history of the
-/// list is what the lines lead to.
-pub fn serial_lines_are_legal()
-    ensures { SerialLinesAreLegal }
+/// Lines that were each done at the end of the history so far are linearized, whatever the limits, where their threads stand
+/// in the order in which they run, none of the lines names a limit, and the sections of a thread that runs alone are kept.
+/// The history of the list is what the lines lead to. Lines of one thread are in order.
+pub fn serial_lines_are_linearized()
+    ensures linearized { SerialLinesAreLinearized }
+    ensures one_thread { OneThreadIsInOrder }
 {}
 
-/// A list of lines has one history, which has as many operations as the list has writes.
+/// A list of lines has one history, which has as many operations as the list has writes. It has one exactly where each
+/// write has a place of its own, from 1 up to their count.
 pub fn histories_are_unique()
     ensures unique { HistoriesAreUnique }
     ensures count { HistoriesCountWrites }
+    ensures placed { PlacedWritesAreHistories }
 {}
 
 /// The history of a legal list of lines is proper: each of its operations is a write at its point.

@@ -5,7 +5,7 @@ use crate::{examples, laws};
 fn laws_of_histories_hold() {
     laws::histories_are_unique();
     laws::legal_histories_are_proper();
-    laws::serial_lines_are_legal();
+    laws::serial_lines_are_linearized();
     laws::one_thread_is_kept();
 }
 
@@ -16,6 +16,7 @@ fn each_list_is_judged_by_its_part() {
     examples::lists_with_wrong_replies();
     examples::lists_with_wrong_places();
     examples::lists_with_wrong_limits_and_paths();
+    examples::ways_of_operations();
     examples::kept_examples();
     examples::lists_with_broken_sections();
 }

@@ -3,7 +3,9 @@ use Rattle.std.proofs.lemmas.Bool.{true≢false, false≢true}
 use Rattle.std.proofs.lemmas.List.Elements.{All-from_recursion}
 use Rattle.at_line.specs.declared.line.Line.{Line}
 use Rattle.at_line.specs.Lines.{write_count, IsHistory}
-use Rattle.at_line.specs.Legal.{IsWriteTrue, IsReadTrue, IsKeptAlone, IsLimitMet, IsPathAllowed, AreWritesTrue, AreReadsTrue, AreLimitsMet, ArePathsAllowed}
+use Rattle.at_line.specs.Legal.{IsWriteTrue, IsReadTrue, IsKeptAlone, IsLimitMet, AreWritesTrue, AreReadsTrue, AreLimitsMet}
+use Rattle.at_line.specs.Paths.{IsLocked, AreLocked}
+use Rattle.at_model.specs.World.{opening}
 use Rattle.at_line.specs.LineExamples.{example_limits, legal_lines, legal_history}
 use Rattle.at_line.proofs.LineChecks.{are_rising, are_in_turn}
 use Rattle.at_line.proofs.examples.legal_example.Goals as goal
@@ -11,14 +13,14 @@ use Rattle.at_line.proofs.examples.legal_example.Goals as goal
 places : IsHistory legal_lines legal_history
 places = search rules
 
-writes_true : AreWritesTrue legal_history legal_lines
+writes_true : AreWritesTrue opening legal_history legal_lines
 writes_true =
-    All-from_recursion (λ (line : Line). IsWriteTrue legal_history line.what) legal_lines
+    All-from_recursion (λ (line : Line). IsWriteTrue opening legal_history line.what) legal_lines
     (λ _. (refl, refl), (λ _. (refl, refl), (tt, (tt, (λ _. (refl, refl), (λ wrote. absurd (false≢true wrote), (λ wrote. absurd (false≢true wrote), (λ _. (refl, refl), (tt, (tt, (λ wrote. absurd (false≢true wrote), tt)))))))))))
 
-reads_true : AreReadsTrue legal_history legal_lines
+reads_true : AreReadsTrue opening legal_history legal_lines
 reads_true =
-    All-from_recursion (λ (line : Line). IsReadTrue legal_history (write_count legal_lines) line.what × IsKeptAlone line.thread line.what) legal_lines (
+    All-from_recursion (λ (line : Line). IsReadTrue opening legal_history (write_count legal_lines) line.what × IsKeptAlone line.thread line.what) legal_lines (
       (λ reads. absurd (true≢false reads), tt),
       (
         (λ reads. absurd (true≢false reads), tt),
@@ -38,11 +40,11 @@ reads_true =
 limits_met : AreLimitsMet example_limits legal_lines
 limits_met = All-from_recursion (λ (line : Line). IsLimitMet example_limits 4 11 line.what) legal_lines (tt, (tt, (tt, (tt, (tt, (tt, (tt, (tt, ((lit≤ tt, lit≤ tt), ((lit≤ tt, lit≤ tt), (tt, tt)))))))))))
 
-paths : ArePathsAllowed legal_lines
-paths = All-from_recursion (λ (line : Line). IsPathAllowed line.what) legal_lines (refl, (refl, (refl, (refl, (refl, (refl, (refl, (refl, (tt, (tt, (refl, tt)))))))))))
+locked : AreLocked legal_lines
+locked = All-from_recursion (λ (line : Line). IsLocked line.what) legal_lines (refl, (refl, (refl, (refl, (refl, (refl, (refl, (refl, (tt, (tt, (refl, tt)))))))))))
 
-pub returns : goal.returns
-returns c = record {
+pub returns-clause-linearized : goal.returns-clause-linearized
+returns-clause-linearized c = record {
   history = legal_history;
   places = places;
   writes = writes_true;
@@ -50,5 +52,7 @@ returns c = record {
   rising = are_rising legal_lines refl;
   turns = are_in_turn legal_lines refl;
   limits_met = limits_met;
-  paths = paths;
 }
+
+pub returns-clause-locked : goal.returns-clause-locked
+returns-clause-locked c = locked

@@ -1,0 +1,126 @@
+-- The ways that operations go: locked, where no other thread changes the model meanwhile; fast, without a lock; and slow,
+-- after a miss on the fast way.
+use Rattle.std.specs.Prelude.{Bool, true, false, not, IsTrue, List, All}
+use Rattle.at_value.specs.declared.operation.Op as op
+use Rattle.at_value.specs.declared.operation.Op.TheVariants as ops
+use Rattle.at_value.specs.declared.reply.Miss as miss
+use Rattle.at_value.specs.declared.reply.Miss.TheVariants as misses
+use Rattle.at_value.specs.declared.reply.Path as path
+use Rattle.at_value.specs.declared.reply.Path.TheVariants as paths
+use Rattle.at_line.specs.declared.line.Line.{Line}
+use Rattle.at_line.specs.declared.line.LineOp as line_op
+use Rattle.at_line.specs.declared.line.LineOp.TheVariants as line_ops
+use Rattle.at_line.specs.declared.line.What as what
+use Rattle.at_line.specs.declared.line.What.TheVariants as whats
+
+-- One way for all: under locks
+
+abbrev pub is_locked : path.Path → Bool
+is_locked paths.Locked = true
+is_locked paths.Fast = false
+is_locked (paths.Slow m) = false
+
+abbrev pub IsLocked : what.What → Type 0
+IsLocked (whats.Did place way operation reply) = IsTrue (is_locked way)
+IsLocked (whats.Local local) = Unit {0}
+
+-- every operation of the lines went under locks, as on the plain data model
+abbrev pub AreLocked : List Line → Type 0
+AreLocked lines = All (λ (line : Line). IsLocked line.what) lines
+
+-- The ways with lock-free reads and writes
+
+-- a miss of a tag, of a cache entry, or of a word that moved, which no dictionary and no key has to do with
+abbrev pub is_of_classes : miss.Miss → Bool
+is_of_classes (misses.Untagged c) = true
+is_of_classes (misses.Unlike e) = true
+is_of_classes (misses.Writing e s) = true
+is_of_classes (misses.Changed e s t) = true
+is_of_classes (misses.Odd o h) = true
+is_of_classes (misses.Dict o h) = false
+is_of_classes (misses.Keyless c n) = false
+is_of_classes (misses.Moved w first second) = true
+
+-- a miss of a head alone
+abbrev pub is_of_head : miss.Miss → Bool
+is_of_head (misses.Untagged c) = false
+is_of_head (misses.Unlike e) = false
+is_of_head (misses.Writing e s) = false
+is_of_head (misses.Changed e s t) = false
+is_of_head (misses.Odd o h) = true
+is_of_head (misses.Dict o h) = false
+is_of_head (misses.Keyless c n) = false
+is_of_head (misses.Moved w first second) = true
+
+abbrev pub is_keyless : miss.Miss → Bool
+is_keyless (misses.Untagged c) = false
+is_keyless (misses.Unlike e) = false
+is_keyless (misses.Writing e s) = false
+is_keyless (misses.Changed e s t) = false
+is_keyless (misses.Odd o h) = false
+is_keyless (misses.Dict o h) = false
+is_keyless (misses.Keyless c n) = true
+is_keyless (misses.Moved w first second) = false
+
+-- whether an operation has a fast way
+abbrev pub has_fast_way : op.Op → Bool
+has_fast_way (ops.NewClass c bases) = false
+has_fast_way (ops.TypeSet c n v) = false
+has_fast_way (ops.TypeDel c n) = false
+has_fast_way (ops.SetBases c bases) = false
+has_fast_way (ops.New c) = false
+has_fast_way (ops.Set o n v) = true
+has_fast_way (ops.Del o n) = true
+has_fast_way (ops.SetClass o c) = false
+has_fast_way (ops.Share o p) = false
+has_fast_way (ops.Get o n) = true
+has_fast_way (ops.TypeGet c n) = true
+has_fast_way (ops.Super k o n) = false
+has_fast_way (ops.Special o n) = true
+has_fast_way (ops.ClassOf o) = true
+has_fast_way (ops.Mro c) = false
+
+-- whether an operation can meet a miss on its fast way
+abbrev pub can_miss : op.Op → miss.Miss → Bool
+can_miss (ops.NewClass c bases) m = false
+can_miss (ops.TypeSet c n v) m = false
+can_miss (ops.TypeDel c n) m = false
+can_miss (ops.SetBases c bases) m = false
+can_miss (ops.New c) m = false
+can_miss (ops.Set o n v) m = true
+can_miss (ops.Del o n) m = not (is_keyless m)
+can_miss (ops.SetClass o c) m = false
+can_miss (ops.Share o p) m = false
+can_miss (ops.Get o n) m = not (is_keyless m)
+can_miss (ops.TypeGet c n) m = is_of_classes m
+can_miss (ops.Super k o n) m = false
+can_miss (ops.Special o n) m = is_of_classes m
+can_miss (ops.ClassOf o) m = is_of_head m
+can_miss (ops.Mro c) m = false
+
+-- an operation that has a fast way goes it, or a slow one after a miss; each other goes under locks
+abbrev pub is_shared_way : op.Op → path.Path → Bool
+is_shared_way o paths.Locked = not (has_fast_way o)
+is_shared_way o paths.Fast = has_fast_way o
+is_shared_way o (paths.Slow m) = can_miss o m
+
+-- the ways of lines once there are lock-free reads and writes; the begin and the end of a section go under locks
+abbrev pub is_way_of_line : line_op.LineOp → path.Path → Bool
+is_way_of_line (line_ops.Of o) way = is_shared_way o way
+is_way_of_line (line_ops.Begin first second) way = is_locked way
+is_way_of_line line_ops.Finish way = is_locked way
+
+-- The ways that a legal list may have today
+
+-- Chosen here: as long as nothing is read or written without a lock, each operation goes under locks. From then on this is
+-- `is_way_of_line`.
+abbrev pub is_allowed_way : line_op.LineOp → path.Path → Bool
+is_allowed_way operation way = is_locked way
+
+abbrev pub IsPathAllowed : what.What → Type 0
+IsPathAllowed (whats.Did place way operation reply) = IsTrue (is_allowed_way operation way)
+IsPathAllowed (whats.Local local) = Unit {0}
+
+-- each path is one that its operation may go
+abbrev pub ArePathsAllowed : List Line → Type 0
+ArePathsAllowed lines = All (λ (line : Line). IsPathAllowed line.what) lines
