@@ -2,9 +2,10 @@
 use Rattle.std.proofs.Common.{◌≡◌, ◌∙◌, ℕ, ◌<◌, ◌≤◌, ltb, cond, Bool, true, false, List, [], ◌∷◌, ◌++◌, length, set, Option, Some, None, refl, sym, ap, subst, append-nil, arith, get_or-set_same, get_or-set_other}
 use Rattle.std.proofs.lemmas.Bool.{ltb-true}
 use Rattle.std.proofs.lemmas.List.{length-set}
+use Rattle.at_model.specs.World.{World}
 use Rattle.at_value.specs.declared.operation.Op as op
 use Rattle.at_line.specs.declared.line.What as what
-use Rattle.at_view.specs.declared.View.{View}
+use Rattle.at_view.specs.declared.HistoryView.{HistoryView}
 use Rattle.at_event.specs.Calls.{IsPrefix}
 use Rattle.at_event.specs.Events.{EventState, Event, join, first_state, view_of, longer, joined, option_join, IsEnabled, after_event, IsEventRun}
 use Rattle.at_event.proofs.Views.{live_within, IsKnown}
@@ -30,19 +31,19 @@ both_in_longer first second whole is_first is_second = by_test (ltb (length firs
     by_test true is = let less : length first < length second = ltb-true (length first) (length second) is in (prefix_of_longer first second whole is_first is_second (omega arith), prefix_itself second)
     by_test false is = let less : length second ≤ length first = grind (arith, is) in (prefix_itself first, prefix_of_longer second first whole is_second is_first less)
 
-pub join_sees_both : (events : List Event) (said : List (ℕ × what.What)) (s : EventState) (v other : ℕ) (before taken : View)
-    → IsEventRun first_state events said s → IsEnabled s (join v other) → view_of s v ≡ Some before → view_of s other ≡ Some taken
-    → (now : View) × (view_of (after_event s (join v other)) v ≡ Some now) × (view_of (after_event s (join v other)) other ≡ None)
+pub join_sees_both : (opened : World) (events : List Event) (said : List (ℕ × what.What)) (s : EventState) (v other : ℕ) (before taken : HistoryView)
+    → IsEventRun opened first_state events said s → IsEnabled opened s (join v other) → view_of s v ≡ Some before → view_of s other ≡ Some taken
+    → (now : HistoryView) × (view_of (after_event s (join v other)) v ≡ Some now) × (view_of (after_event s (join v other)) other ≡ None)
     × IsPrefix before.seen now.seen × IsPrefix taken.seen now.seen × (now.own ≡ before.own ++ taken.own)
-join_sees_both events said s v other before taken run (live, live_other, apart) is is_other =
+join_sees_both opened events said s v other before taken run (live, live_other, apart) is is_other =
     let with_both = option_join (view_of s v) (view_of s other) in
     let within : v < length s.views = live_within s.views v live in
     let within_other : other < length s.views = live_within s.views other live_other in
     let long : length (set s.views v with_both) ≡ length s.views = length-set s.views v with_both in
-    let join_of : Option View → Option View = λ view. option_join view (view_of s other) in
+    let join_of : Option HistoryView → Option HistoryView = λ view. option_join view (view_of s other) in
     let both_are : with_both ≡ Some (joined before taken) = ap join_of is ∙ ap (option_join (Some before)) is_other in
-    let known = subst (IsKnown s.history v) is (run_knows events said s run v) in
-    let known_other = subst (IsKnown s.history other) is_other (run_knows events said s run other) in
+    let known = subst (IsKnown s.history v) is (run_knows opened events said s run v) in
+    let known_other = subst (IsKnown s.history other) is_other (run_knows opened events said s run other) in
     let prefixes = both_in_longer before.seen taken.seen s.history known.1 known_other.1 in (
       joined before taken,
       get_or-set_other (set s.views v with_both) other v None None apart ∙ (get_or-set_same s.views v with_both None within ∙ both_are),

@@ -1,7 +1,7 @@
 -- Lines one after another are what reads and writes of one view say.
 use Rattle.std.proofs.Common.{◌≡◌, ◌∙◌, refl, sym, ap, ℕ, Bool, true, false, List, [], ◌∷◌, ◌++◌, length}
 use Rattle.std.specs.Prelude.{All}
-use Rattle.std.proofs.lemmas.List.Elements.{All-nil, All-cons, All-head, All-tail}
+use Rattle.std.proofs.lemmas.List.Elements.{All-nil, All-cons}
 use Rattle.at_value.specs.declared.operation.Op as op
 use Rattle.at_value.specs.declared.reply.Place.{Place}
 use Rattle.at_value.specs.declared.reply.Path as path
@@ -11,8 +11,8 @@ use Rattle.at_line.specs.declared.line.LineReply.TheVariants as line_replies
 use Rattle.at_line.specs.declared.line.What as what
 use Rattle.at_line.specs.declared.line.What.TheVariants as whats
 use Rattle.at_line.specs.Lines.{main_thread}
-use Rattle.at_line.specs.Legal.{IsPathAllowed}
 use Rattle.at_line.specs.Serial.{GoesOn, IsSerial}
+use Rattle.at_model.specs.World.{World}
 use Rattle.at_model.specs.Step.{step, is_write}
 use Rattle.at_model.specs.History.{replay}
 use Rattle.at_event.specs.Events.{EventState, Event, read, write, first_state, IsLive, grown, did, said_by, IsEnabled, after_event, IsEventRun}
@@ -21,17 +21,17 @@ use Rattle.at_event.proofs.Serials.{one_longer}
 use Rattle.at_event.proofs.OneViews.{alone_live}
 
 -- events of the first view that lead from s to a state with this history, and say this
-record Led (s : EventState) (said : List (ℕ × what.What)) (history : List op.Op) : Type 0 where
+record Led (opened : World) (s : EventState) (said : List (ℕ × what.What)) (history : List op.Op) : Type 0 where
   pub events : List Event
   pub last : EventState
-  pub run : IsEventRun s events said last
+  pub run : IsEventRun opened s events said last
   pub alone : All (IsDoneBy main_thread) events
   pub leads : last.history ≡ history
 
 -- one event before the others
-led_by : (s : EventState) (event : Event) (w : what.What) (rest : List (ℕ × what.What)) (history : List op.Op) → IsEnabled s event → IsDoneBy main_thread event → (main_thread, w) ∷ [] ≡ said_by s event → Led (after_event s event) rest history
-    → Led s ((main_thread, w) ∷ rest) history
-led_by s event w rest history enabled alone said on = record {
+led_by : (opened : World) (s : EventState) (event : Event) (w : what.What) (rest : List (ℕ × what.What)) (history : List op.Op) → IsEnabled opened s event → IsDoneBy main_thread event → (main_thread, w) ∷ [] ≡ said_by opened s event → Led opened (after_event s event) rest history
+    → Led opened s ((main_thread, w) ∷ rest) history
+led_by opened s event w rest history enabled alone said on = record {
   events = event ∷ on.events;
   last = on.last;
   run = (enabled, rest, ap (λ first. first ++ rest) said, on.run);
@@ -40,40 +40,37 @@ led_by s event w rest history enabled alone said on = record {
 }
 
 -- the line is that of the operation after this history
-told : (history : List op.Op) (place : Place) (n : ℕ) (way : path.Path) (operation : op.Op) (reply : line_reply.LineReply) → IsPathAllowed (whats.Did place way (line_ops.Of operation) reply) → reply ≡ line_replies.Of (step (replay history) operation).reply → place.0 ≡ n
-    → whats.Did place way (line_ops.Of operation) reply ≡ whats.Did (record { 0 = n }) way (line_ops.Of operation) (line_replies.Of (step (replay history) operation).reply)
-told history place n way operation reply locked replied at =
+-- the line is that of the operation after this history
+told : (opened : World) (s : EventState) (place : Place) (n : ℕ) (way : path.Path) (operation : op.Op) (reply : line_reply.LineReply) → reply ≡ line_replies.Of (step (replay opened s.history) operation).reply → place.0 ≡ n
+    → whats.Did place way (line_ops.Of operation) reply ≡ did opened s n operation way
+told opened s place n way operation reply replied at =
     ap (λ (r : line_reply.LineReply). whats.Did place way (line_ops.Of operation) r) replied
-    ∙ ap (λ (m : ℕ). whats.Did (record { 0 = m }) way (line_ops.Of operation) (line_replies.Of (step (replay history) operation).reply)) at
+    ∙ ap (λ (m : ℕ). whats.Did (record { 0 = m }) way (line_ops.Of operation) (line_replies.Of (step (replay opened s.history) operation).reply)) at
 
-did_locked : (s : EventState) (n : ℕ) (way : path.Path) (operation : op.Op) (reply : line_reply.LineReply) (place : Place) → IsPathAllowed (whats.Did place way (line_ops.Of operation) reply)
-    → whats.Did (record { 0 = n }) way (line_ops.Of operation) (line_replies.Of (step (replay s.history) operation).reply) ≡ did s n operation
-did_locked s n way operation reply place locked = ap (λ (p : path.Path). whats.Did (record { 0 = n }) p (line_ops.Of operation) (line_replies.Of (step (replay s.history) operation).reply)) locked
-
-module _ (s : EventState) (place : Place) (way : path.Path) (operation : op.Op) (reply : line_reply.LineReply) (live : IsLive s main_thread) (locked : IsPathAllowed (whats.Did place way (line_ops.Of operation) reply))
-    (replied : reply ≡ line_replies.Of (step (replay s.history) operation).reply) (rest : List (ℕ × what.What)) (last : List op.Op) (Rest : List op.Op → Type 0)
-    (more : (t : EventState) → IsLive t main_thread → Rest t.history → Led t rest last) where
+module _ (opened : World) (s : EventState) (place : Place) (way : path.Path) (operation : op.Op) (reply : line_reply.LineReply) (live : IsLive s main_thread)
+    (replied : reply ≡ line_replies.Of (step (replay opened s.history) operation).reply) (rest : List (ℕ × what.What)) (last : List op.Op) (Rest : List op.Op → Type 0)
+    (more : (t : EventState) → IsLive t main_thread → Rest t.history → Led opened t rest last) where
   abbrev line : what.What
   line = whats.Did place way (line_ops.Of operation) reply
 
-  by_test : (b : Bool) → is_write (replay s.history) operation ≡ b → GoesOn Rest b s.history place.0 operation → Led s ((main_thread, line) ∷ rest) last
+  by_test : (b : Bool) → is_write (replay opened s.history) operation ≡ b → GoesOn Rest b s.history place.0 operation → Led opened s ((main_thread, line) ∷ rest) last
   by_test true writes on =
-      let event = write main_thread operation in
-      let same : line ≡ did s (length (grown s operation)) operation = told s.history place (length (grown s operation)) way operation reply locked replied (on.0 ∙ sym (one_longer s.history operation)) ∙ did_locked s (length (grown s operation)) way operation reply place locked in
-      led_by s event line rest last (live, writes) refl (ap (λ w. (main_thread, w) ∷ []) same) (more (after_event s event) (alone_live s event refl live) on.1)
+      let event = write main_thread operation way in
+      let same : line ≡ did opened s (length (grown s operation)) operation way = told opened s place (length (grown s operation)) way operation reply replied (on.0 ∙ sym (one_longer s.history operation)) in
+      led_by opened s event line rest last (live, writes) refl (ap (λ w. (main_thread, w) ∷ []) same) (more (after_event s event) (alone_live s event refl live) on.1)
   by_test false reads on =
-      let event = read main_thread operation in
-      let same : line ≡ did s (length s.history) operation = told s.history place (length s.history) way operation reply locked replied on.0 ∙ did_locked s (length s.history) way operation reply place locked in
-      led_by s event line rest last (live, reads) refl (ap (λ w. (main_thread, w) ∷ []) same) (more (after_event s event) (alone_live s event refl live) on.1)
+      let event = read main_thread operation way in
+      let same : line ≡ did opened s (length s.history) operation way = told opened s place (length s.history) way operation reply replied on.0 in
+      led_by opened s event line rest last (live, reads) refl (ap (λ w. (main_thread, w) ∷ []) same) (more (after_event s event) (alone_live s event refl live) on.1)
 
-serial_led : (says : List what.What) (s : EventState) (last : List op.Op) → IsLive s main_thread → IsSerial s.history says last → All IsPathAllowed says → Led s (operations_in says) last
-serial_led [] s last live serial locked = record { events = []; last = s; run = (refl, refl); alone = All-nil (IsDoneBy main_thread); leads = serial }
-serial_led (whats.Did place way (line_ops.Of operation) reply ∷ says) s last live serial locked =
-    by_test s place way operation reply live (All-head IsPathAllowed _ says locked) serial.0 (operations_in says) last (λ history. IsSerial history says last)
-    (λ t on serial. serial_led says t last on serial (All-tail IsPathAllowed _ says locked)) (is_write (replay s.history) operation) refl serial.1
-serial_led (whats.Did place way (line_ops.Begin first second) reply ∷ says) s last live serial locked = serial_led says s last live serial.1 (All-tail IsPathAllowed _ says locked)
-serial_led (whats.Did place way line_ops.Finish reply ∷ says) s last live serial locked = serial_led says s last live serial.1 (All-tail IsPathAllowed _ says locked)
-serial_led (whats.Local local ∷ says) s last live serial locked = serial_led says s last live serial (All-tail IsPathAllowed _ says locked)
+serial_led : (opened : World) (says : List what.What) (s : EventState) (last : List op.Op) → IsLive s main_thread → IsSerial opened s.history says last → Led opened s (operations_in says) last
+serial_led opened [] s last live serial = record { events = []; last = s; run = (refl, refl); alone = All-nil (IsDoneBy main_thread); leads = serial }
+serial_led opened (whats.Did place way (line_ops.Of operation) reply ∷ says) s last live serial =
+    by_test opened s place way operation reply live serial.0 (operations_in says) last (λ history. IsSerial opened history says last)
+    (λ t on serial. serial_led opened says t last on serial) (is_write (replay opened s.history) operation) refl serial.1
+serial_led opened (whats.Did place way (line_ops.Begin first second) reply ∷ says) s last live serial = serial_led opened says s last live serial.1
+serial_led opened (whats.Did place way line_ops.Finish reply ∷ says) s last live serial = serial_led opened says s last live serial.1
+serial_led opened (whats.Local local ∷ says) s last live serial = serial_led opened says s last live serial
 
 pub serial_events : SerialLinesAreEvents
-serial_events says history serial locked = let led = serial_led says first_state history refl serial locked in (led.events, led.last, led.run, led.alone, led.leads)
+serial_events opened says history serial = let led = serial_led opened says first_state history refl serial in (led.events, led.last, led.run, led.alone, led.leads)

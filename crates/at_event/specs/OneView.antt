@@ -6,8 +6,9 @@ use Rattle.at_line.specs.declared.line.Line.{Line}
 use Rattle.at_line.specs.declared.line.LineOp.TheVariants as line_ops
 use Rattle.at_line.specs.declared.line.What as what
 use Rattle.at_line.specs.declared.line.What.TheVariants as whats
-use Rattle.at_line.specs.Lines.{main_thread, IsHistory}
-use Rattle.at_line.specs.Legal.{IsLegal, IsPathAllowed}
+use Rattle.at_line.specs.Lines.{main_thread}
+use Rattle.at_model.specs.World.{World}
+use Rattle.at_line.specs.Legal.{IsLinearized}
 use Rattle.at_line.specs.Serial.{IsSerial, NamesNoLimit}
 use Rattle.at_event.specs.Events.{EventState, Event, split, join, read, write, first_state, IsEventRun, AreLinesOf}
 
@@ -24,39 +25,43 @@ placed (line ∷ lines) = if has_place line.what then line ∷ placed lines else
 abbrev pub IsDoneBy : ℕ → Event → Type 0
 IsDoneBy v (split u) = ⊥
 IsDoneBy v (join u other) = ⊥
-IsDoneBy v (read u operation) = u ≡ v
-IsDoneBy v (write u operation) = u ≡ v
+IsDoneBy v (read u operation way) = u ≡ v
+IsDoneBy v (write u operation way) = u ≡ v
 
 -- These lines are all of `main`, and reads and writes of the first view brought them about, from the first state to one
 -- with this history; between them stand local lines, none of which names a limit.
-pub record IsOneViewRun (lines : List Line) (history : List op.Op) : Type 0 where
+pub record IsOneViewRun (opened : World) (lines : List Line) (history : List op.Op) : Type 0 where
   pub events : List Event
   pub said : List (ℕ × what.What)
   pub last : EventState
-  pub run : IsEventRun first_state events said last
+  pub run : IsEventRun opened first_state events said last
   pub alone : All (IsDoneBy main_thread) events
   pub leads : last.history ≡ history
   pub lines_are : AreLinesOf said (placed lines)
   pub of_main : All (λ (line : Line). line.thread ≡ main_thread) lines
   pub no_limit : All (λ (line : Line). NamesNoLimit line.what) lines
 
--- such lines are legal under any limits, and the history is theirs
-abbrev pub OneViewRunsAreLegal : Type 0
-OneViewRunsAreLegal = (limits : Limits) (lines : List Line) (history : List op.Op) → IsOneViewRun lines history → (legal : IsLegal limits lines) × (legal.history ≡ history) × IsHistory lines history
+-- such lines are linearized under any limits, and the history is theirs
+abbrev pub OneViewRunsAreLinearized : Type 0
+OneViewRunsAreLinearized =
+    (opened : World) (limits : Limits) (lines : List Line) (history : List op.Op) → IsOneViewRun opened lines history
+    → (linearized : IsLinearized opened limits lines) × (linearized.history ≡ history)
 
 -- what lines say of operations of the data model, as the first view's; the begin and the end of a section are no such
 -- operations
 abbrev pub operation_in : what.What → List (ℕ × what.What)
 operation_in (whats.Did place path (line_ops.Of operation) reply) = (main_thread, whats.Did place path (line_ops.Of operation) reply) ∷ []
-operation_in w = []
+operation_in (whats.Did place path (line_ops.Begin first second) reply) = []
+operation_in (whats.Did place path line_ops.Finish reply) = []
+operation_in (whats.Local local) = []
 
 abbrev pub operations_in : List what.What → List (ℕ × what.What)
 operations_in [] = []
 operations_in (w ∷ says) = operation_in w ++ operations_in says
 
--- What is said one after another, each at the end of the history so far and under locks, is what reads and writes of one
--- view say, which lead to that history.
+-- What is said one after another, each at the end of the history so far, is what reads and writes of one view say, by
+-- whatever paths, which lead to that history.
 abbrev pub SerialLinesAreEvents : Type 0
 SerialLinesAreEvents =
-    (says : List what.What) (history : List op.Op) → IsSerial [] says history → All IsPathAllowed says
-    → (events : List Event) × (last : EventState) × IsEventRun first_state events (operations_in says) last × All (IsDoneBy main_thread) events × (last.history ≡ history)
+    (opened : World) (says : List what.What) (history : List op.Op) → IsSerial opened [] says history
+    → (events : List Event) × (last : EventState) × IsEventRun opened first_state events (operations_in says) last × All (IsDoneBy main_thread) events × (last.history ≡ history)

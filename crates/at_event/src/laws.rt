@@ -1,7 +1,7 @@
 //! What is true of every list of events. Each function does nothing: its contract is the law.
 ghost use Rattle.at_event.specs.Laws.{EventsAreSound, JoinsSeeBoth, ReadsAreCalls, WritesAreCalls};
 ghost use Rattle.at_event.specs.Worked.{IsWorked};
-ghost use Rattle.at_event.specs.OneView.{OneViewRunsAreLegal, SerialLinesAreEvents};
+ghost use Rattle.at_event.specs.OneView.{OneViewRunsAreLinearized, SerialLinesAreEvents};
 
 /// However views split, join, read and write, each event at one moment, the outcome is one history: it is proper, the
 /// lines of the events have true replies at their places in it, places rise in each view, and each place of the history is
@@ -22,10 +22,10 @@ pub fn joins_see_both()
     ensures { JoinsSeeBoth }
 {}
 
-/// What one view alone brings about, with any local lines between that name no limit, is a legal list of lines under any
-/// limits, and the history that the events lead to is the history of the list.
-pub fn one_view_is_legal()
-    ensures { OneViewRunsAreLegal }
+/// What one view alone brings about, by whatever paths, with any local lines between that name no limit, is linearized
+/// under any limits, and the history that the events lead to is the history of the list.
+pub fn one_view_is_linearized()
+    ensures { OneViewRunsAreLinearized }
 {}
 
 /// What lines say one after another, each at the end of the history so far, reads and writes of one view say: a thread that

@@ -4,10 +4,11 @@
 use at_value::Op;
 use std::collections::LinkedList;
 
-/// A view of the history: what one pass has seen of it, and which writes are its own.
-pub struct View {
-    /// The view's number, which no other view has, not even a spent one.
-    pub number: u64,
+/// What one pass has seen of the history, and which writes are its own: the part of a pass's view over which whole
+/// events are said.
+pub struct HistoryView {
+    /// The birth number, which no other view has, not even a spent one.
+    pub birth: u64,
     /// The prefix of the history that it has seen, the first write first.
     pub seen: LinkedList<Op>,
     /// The places of the writes that it made itself, or that a view made which it has taken in; places count from 1.

@@ -1,5 +1,0 @@
-use Rattle.at_event.proofs.OneViews.{one_view_legal}
-use Rattle.at_event.proofs.laws.one_view_is_legal.Goals as goal
-
-pub returns : goal.returns
-returns c = one_view_legal
