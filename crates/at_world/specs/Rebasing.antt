@@ -1,5 +1,5 @@
 -- What is known of orders while a class is given other bases.
-use Rattle.std.specs.Prelude.{ℕ, suc, Bool, not, ◌==◌, ◌≡◌, ◌<◌, ◌≤◌, ◌&&◌, false, List, [], ◌∷◌, length, set, Option, Some, None, if◌then◌else◌, IsTrue, is_some, slice_index_or}
+use Rattle.std.specs.Prelude.{ℕ, suc, Bool, not, ◌==◌, ◌≡◌, ◌<◌, ◌≤◌, ◌&&◌, false, List, [], ◌∷◌, length, Option, Some, None, if◌then◌else◌, IsTrue, is_some, slice_index_or}
 use Rattle.at_model.specs.declared.rows.ClassRow.{ClassRow}
 use Rattle.at_model.specs.World.{row_of, order_in}
 use Rattle.at_model.specs.Step.{has_number, is_empty}
