@@ -1,3 +1,5 @@
 mod Turning
-pub mod Legals
+mod Serial
 mod Unique
+mod InOrder
+pub mod Legals

@@ -1,7 +1,7 @@
 -- Turns of a thread on the plain data model, one after another.
 use Rattle.std.proofs.Common.{◌≡◌, ◌∙◌, refl, sym, ap, subst, ℕ, suc, ◌+◌, ◌*◌, ◌^◌, ◌<◌, ◌≤◌, arith, Bool, true, false, List, [], ◌∷◌, ◌++◌, length, None, if◌then◌else◌, append-nil, length-append}
 use Rattle.std.specs.Prelude.{All}
-use Rattle.std.proofs.lemmas.List.Elements.{All-nil, All-cons, All-head, All-tail, All-push}
+use Rattle.std.proofs.lemmas.List.Elements.{All-nil, All-cons, All-head, All-tail, All-push, All-weaker}
 use Rattle.at_value.specs.declared.operation.Op as op
 use Rattle.at_model.specs.declared.last.Final as final
 use Rattle.at_line.specs.declared.line.Line.{Line}
@@ -11,9 +11,9 @@ use Rattle.at_line.specs.declared.line.Local as local
 use Rattle.at_line.specs.declared.line.Local.TheVariants as locals
 use Rattle.at_line.specs.declared.line.What as what
 use Rattle.at_line.specs.declared.line.What.TheVariants as whats
-use Rattle.at_model.specs.World.{World, opening}
+use Rattle.at_model.specs.World.{World}
 use Rattle.at_model.specs.Step.{step, is_write}
-use Rattle.at_model.specs.History.{after, replay}
+use Rattle.at_model.specs.History.{replay}
 use Rattle.at_line.specs.Serial.{GoesOn, Adds, IsSerial, NamesNoLimit}
 use Rattle.at_model.specs.Final.{final_of}
 use Rattle.at_world.specs.Plain.{PlainState, stepped, counted}
@@ -28,74 +28,77 @@ use Rattle.at_thread.proofs.Numbering.{whats_of_numbered}
 use Rattle.at_thread.proofs.Alone.{alone_run}
 use Rattle.at_thread.proofs.Steps.{spare, Few}
 use Rattle.at_thread.proofs.Leading.{leads_more}
-use Rattle.at_run.specs.PlainRun.{IsPlain, IsPlainRun}
-use Rattle.at_run.specs.Turns.{Tells, IsWorldOf, Leading}
+use Rattle.at_line.specs.Paths.{IsLocked}
+use Rattle.at_run.specs.Opening.{opening_of}
+use Rattle.at_run.specs.PlainRun.{IsUndisturbed, IsPlainRun}
+use Rattle.at_run.specs.Turns.{IsPlain, Tells, IsWorldOf, Leading}
 
-after_more : (w : World) (history : List op.Op) (o : op.Op) → after w (history ++ o ∷ []) ≡ (step (after w history) o).world
-after_more w [] o = refl
-after_more w (first ∷ history) o = after_more (step w first).world history o
+replay_more : (opened : World) (history : List op.Op) (o : op.Op) → replay opened (history ++ o ∷ []) ≡ (step (replay opened history) o).world
+replay_more opened [] o = refl
+replay_more opened (first ∷ history) o = replay_more (step opened first).world history o
 
--- a line, added to a history
-record Added (v : PlainState) (history : List op.Op) (l : what.What) : Type 0 where
-  pub longer : List op.Op
-  pub world : IsWorldOf v longer
-  pub adds : Adds (λ now. now ≡ longer) history l
-  pub by_one : length longer ≤ suc (length history)
-
-module _ (v : PlainState) (history : List op.Op) (o : op.Op) (became : v ≡ stepped (record { world = replay history; place = length history }) o) (room : length history + 1 < 2 ^ 64) where
-  abbrev goes : Bool → List op.Op → ℕ → Type 0
-  goes b longer place = GoesOn (λ now. now ≡ longer) b history place o
-
-  -- the history after the operation
-  record Gone (place : ℕ) : Type 0 where
+module _ (opened : World) where
+  -- a line, added to a history
+  record Added (v : PlainState) (history : List op.Op) (l : what.What) : Type 0 where
     pub longer : List op.Op
-    pub world : IsWorldOf v longer
-    pub goes_on : goes (is_write (replay history) o) longer place
+    pub world : IsWorldOf opened v longer
+    pub adds : Adds opened (λ now. now ≡ longer) history l
     pub by_one : length longer ≤ suc (length history)
 
-  gone : (place : ℕ) (b : Bool) → is_write (replay history) o ≡ b → place ≡ v.place → Gone place
-  gone place true writes at =
-      let one : length (history ++ o ∷ []) ≡ length history + 1 = length-append history (o ∷ []) in
-      let counts : v.place ≡ counted (length history) = ap (λ (s : PlainState). s.place) became ∙ ap (λ (b : Bool). if b then counted (length history) else length history) writes in
-      let next : counted (length history) ≡ suc (length history) = omega arith in
+  module _ (v : PlainState) (history : List op.Op) (o : op.Op) (became : v ≡ stepped (record { world = replay opened history; place = length history }) o) (room : length history + 1 < 2 ^ 64) where
+    abbrev goes : Bool → List op.Op → ℕ → Type 0
+    goes b longer place = GoesOn (λ now. now ≡ longer) b history place o
+
+    -- the history after the operation
+    record Gone (place : ℕ) : Type 0 where
+      pub longer : List op.Op
+      pub world : IsWorldOf opened v longer
+      pub goes_on : goes (is_write (replay opened history) o) longer place
+      pub by_one : length longer ≤ suc (length history)
+
+    gone : (place : ℕ) (b : Bool) → is_write (replay opened history) o ≡ b → place ≡ v.place → Gone place
+    gone place true writes at =
+        let one : length (history ++ o ∷ []) ≡ length history + 1 = length-append history (o ∷ []) in
+        let counts : v.place ≡ counted (length history) = ap (λ (s : PlainState). s.place) became ∙ ap (λ (b : Bool). if b then counted (length history) else length history) writes in
+        let next : counted (length history) ≡ suc (length history) = omega arith in
+        record {
+          longer = history ++ o ∷ [];
+          world = (ap (λ (s : PlainState). s.world) became ∙ sym (replay_more opened history o), omega arith);
+          goes_on = subst (λ b. goes b (history ++ o ∷ []) place) (sym writes) (omega arith, refl);
+          by_one = omega arith;
+        }
+    gone place false reads at =
+        let counts : v.place ≡ length history = ap (λ (s : PlainState). s.place) became ∙ ap (λ (b : Bool). if b then counted (length history) else length history) reads in
+        record {
+          longer = history;
+          world = (ap (λ (s : PlainState). s.world) became ∙ step-left (replay opened history) o reads, counts);
+          goes_on = subst (λ b. goes b history place) (sym reads) (at ∙ counts, refl);
+          by_one = omega arith;
+        }
+
+  -- the begin and the end of a section stand at the end of the history
+  unmoved : (w v : PlainState) (history : List op.Op) (place : ℕ) → (v ≡ w) × (place ≡ w.place) → IsWorldOf opened w history → IsWorldOf opened v history × (place ≡ length history)
+  unmoved w v history place told stands = (subst (λ (s : PlainState). IsWorldOf opened s history) (sym told.0) stands, told.1 ∙ stands.1)
+
+  told_adds : (w v : PlainState) (history : List op.Op) (l : what.What) → Tells w l v → IsWorldOf opened w history → length history + 1 < 2 ^ 64 → Added v history l
+  told_adds w v history (whats.Did place path (line_ops.Of o) r) told stands room =
+      let same : w ≡ record { world = replay opened history; place = length history } = ap (λ (x : World). record { world = x; place = w.place }) stands.0 ∙ ap (λ (n : ℕ). record { world = replay opened history; place = n }) stands.1 in
+      let g = gone v history o (told.1 ∙ ap (λ (s : PlainState). stepped s o) same) room place.0 (is_write (replay opened history) o) refl told.2 in
       record {
-        longer = history ++ o ∷ [];
-        world = (ap (λ (s : PlainState). s.world) became ∙ sym (after_more opening history o), omega arith);
-        goes_on = subst (λ b. goes b (history ++ o ∷ []) place) (sym writes) (omega arith, refl);
-        by_one = omega arith;
+        longer = g.longer;
+        world = g.world;
+        adds = (told.0 ∙ ap (λ (x : World). line_replies.Of (step x o).reply) stands.0, g.goes_on);
+        by_one = g.by_one;
       }
-  gone place false reads at =
-      let counts : v.place ≡ length history = ap (λ (s : PlainState). s.place) became ∙ ap (λ (b : Bool). if b then counted (length history) else length history) reads in
-      record {
-        longer = history;
-        world = (ap (λ (s : PlainState). s.world) became ∙ step-left (replay history) o reads, counts);
-        goes_on = subst (λ b. goes b history place) (sym reads) (at ∙ counts, refl);
-        by_one = omega arith;
-      }
+  told_adds w v history (whats.Did place path (line_ops.Begin a b) r) told stands room = let k = unmoved w v history place.0 told stands in record { longer = history; world = k.0; adds = (k.1, refl); by_one = omega arith }
+  told_adds w v history (whats.Did place path line_ops.Finish r) told stands room = let k = unmoved w v history place.0 told stands in record { longer = history; world = k.0; adds = (k.1, refl); by_one = omega arith }
+  told_adds w v history (whats.Local l) told stands room = record { longer = history; world = subst (λ (s : PlainState). IsWorldOf opened s history) (sym told) stands; adds = refl; by_one = omega arith }
 
--- the begin and the end of a section stand at the end of the history
-unmoved : (w v : PlainState) (history : List op.Op) (place : ℕ) → (v ≡ w) × (place ≡ w.place) → IsWorldOf w history → IsWorldOf v history × (place ≡ length history)
-unmoved w v history place told stands = (subst (λ (s : PlainState). IsWorldOf s history) (sym told.0) stands, told.1 ∙ stands.1)
-
-told_adds : (w v : PlainState) (history : List op.Op) (l : what.What) → Tells w l v → IsWorldOf w history → length history + 1 < 2 ^ 64 → Added v history l
-told_adds w v history (whats.Did place path (line_ops.Of o) r) told stands room =
-    let same : w ≡ record { world = replay history; place = length history } = ap (λ (x : World). record { world = x; place = w.place }) stands.0 ∙ ap (λ (n : ℕ). record { world = replay history; place = n }) stands.1 in
-    let g = gone v history o (told.1 ∙ ap (λ (s : PlainState). stepped s o) same) room place.0 (is_write (replay history) o) refl told.2 in
-    record {
-      longer = g.longer;
-      world = g.world;
-      adds = (told.0 ∙ ap (λ (x : World). line_replies.Of (step x o).reply) stands.0, g.goes_on);
-      by_one = g.by_one;
-    }
-told_adds w v history (whats.Did place path (line_ops.Begin a b) r) told stands room = let k = unmoved w v history place.0 told stands in record { longer = history; world = k.0; adds = (k.1, refl); by_one = omega arith }
-told_adds w v history (whats.Did place path line_ops.Finish r) told stands room = let k = unmoved w v history place.0 told stands in record { longer = history; world = k.0; adds = (k.1, refl); by_one = omega arith }
-told_adds w v history (whats.Local l) told stands room = record { longer = history; world = subst (λ (s : PlainState). IsWorldOf s history) (sym told) stands; adds = refl; by_one = omega arith }
-
--- one more line
-serial_more : (history : List op.Op) (says : List what.What) (middle : List op.Op) (l : what.What) (last : List op.Op) → IsSerial history says middle → Adds (λ now. now ≡ last) middle l → IsSerial history (says ++ l ∷ []) last
-serial_more history [] middle l last s a = subst (λ (h : List op.Op). Adds (λ now. now ≡ last) h l) (sym s) a
-serial_more history (w ∷ says) middle l last s a =
-    adds_weaker (λ longer. IsSerial longer says middle) (λ longer. IsSerial longer (says ++ l ∷ []) last) history w (λ longer k. serial_more longer says middle l last k a) s
+  -- one more line
+  serial_more : (history : List op.Op) (says : List what.What) (middle : List op.Op) (l : what.What) (last : List op.Op) → IsSerial opened history says middle → Adds opened (λ now. now ≡ last) middle l → IsSerial opened history (says ++ l ∷ []) last
+  serial_more history [] middle l last s a = subst (λ (h : List op.Op). Adds opened (λ now. now ≡ last) h l) (sym s) a
+  serial_more history (w ∷ says) middle l last s a =
+      adds_weaker opened (λ longer. IsSerial opened longer says middle) (λ longer. IsSerial opened longer (says ++ l ∷ []) last) history w (λ longer k. serial_more longer says middle l last k a) s
 
 -- a turn without a line
 pub leading_silent : (p : ScriptParts) (s : execution.ThreadState) (says : List what.What) (t u : execution.ThreadState) (w v : PlainState) → Leading p s says t w → Makes (next_of p t) [] u → v ≡ w → Leading p s says u v
@@ -106,7 +109,7 @@ leading_silent p s says t u w v h makes same = record {
   serial = h.serial;
   short = h.short;
   plain = h.plain;
-  world = subst (λ (x : PlainState). IsWorldOf x h.history) (sym same) h.world;
+  world = subst (λ (x : PlainState). IsWorldOf (opening_of p) x h.history) (sym same) h.world;
 }
 
 -- a turn with a line
@@ -114,14 +117,14 @@ pub leading_says : (p : ScriptParts) (s : execution.ThreadState) (says : List wh
     → Leading p s (says ++ l ∷ []) u v
 leading_says p s says t u w v l h makes tells plain room =
     let short = h.short in
-    let a = told_adds w v h.history l tells h.world (omega arith) in
+    let a = told_adds (opening_of p) w v h.history l tells h.world (omega arith) in
     let by_one = a.by_one in
     let longer : length (says ++ l ∷ []) ≡ length says + 1 = length-append says (l ∷ []) in
     record {
       steps = suc h.steps;
       leads = leads_more p h.steps s says t (l ∷ []) u h.leads makes;
       history = a.longer;
-      serial = serial_more [] says h.history l a.longer h.serial a.adds;
+      serial = serial_more (opening_of p) [] says h.history l a.longer h.serial a.adds;
       short = omega arith;
       plain = All-push IsPlain says l h.plain plain;
       world = a.world;
@@ -129,12 +132,16 @@ leading_says p s says t u w v l h makes tells plain room =
 
 -- what a thread says by itself is plain
 pub own_plain : (l : local.Local) → NamesNoLimit (whats.Local l) → IsPlain (whats.Local l)
-own_plain (locals.Full place) h = absurd h
+own_plain locals.Depth h = (tt, tt)
+own_plain locals.Budget h = (tt, tt)
+own_plain locals.Kind h = (tt, tt)
+own_plain (locals.Unbound variable) h = (tt, tt)
+own_plain locals.NotCallable h = (tt, tt)
 own_plain (locals.Worn sequence) h = absurd h
-own_plain l h = tt
+own_plain (locals.Full place) h = absurd h
 
 -- where no line was written yet, and the world is the opening one
-pub leading_start : (p : ScriptParts) (s : execution.ThreadState) (w : PlainState) → w ≡ record { world = opening; place = 0 } → Leading p s [] s w
+pub leading_start : (p : ScriptParts) (s : execution.ThreadState) (w : PlainState) → w ≡ record { world = opening_of p; place = 0 } → Leading p s [] s w
 leading_start p s w is = record {
   steps = 0;
   leads = (refl, refl);
@@ -166,10 +173,15 @@ all_numbered P thread from (w ∷ says) all =
 -- Lines that run the block `main` to its end, on the data model from the opening world on, are the plain run of a script
 -- without other blocks.
 pub plain_run : (p : ScriptParts) (says : List what.What) (end : execution.ThreadState) (w : PlainState) (last : final.Final) → p.threads ≡ [] → p.finally ≡ None → next_of p end ≡ execution.ended → Leading p (start p.main (unbound p)) says end w → last ≡ final_of w.world → IsPlainRun p (numbered 0 1 says) last
-plain_run p says end w last threads finally ends h is = record {
-  runs = alone_run p says end threads finally (ends, h.steps, h.leads);
-  history = h.history;
-  serial = subst (λ (ws : List what.What). IsSerial [] ws h.history) (sym (whats_of_numbered 0 1 says)) h.serial;
-  plain = all_numbered IsPlain 0 1 says h.plain;
-  ends = is ∙ ap final_of h.world.0;
-}
+plain_run p says end w last threads finally ends h is =
+    let plain = all_numbered IsPlain 0 1 says h.plain in
+    record {
+      serial_run = record {
+        runs = alone_run p says end threads finally (ends, h.steps, h.leads);
+        history = h.history;
+        serial = subst (λ (ws : List what.What). IsSerial (opening_of p) [] ws h.history) (sym (whats_of_numbered 0 1 says)) h.serial;
+        undisturbed = All-weaker (λ (line : Line). IsPlain line.what) (λ (line : Line). IsUndisturbed line.what) (λ line is. is.0) (numbered 0 1 says) plain;
+        ends = is ∙ ap final_of h.world.0;
+      };
+      locked = All-weaker (λ (line : Line). IsPlain line.what) (λ (line : Line). IsLocked line.what) (λ line is. is.1) (numbered 0 1 says) plain;
+    }

@@ -1,3 +1,4 @@
+pub mod Opening
 pub mod LegalRun
 pub mod PlainRun
 pub mod Turns

@@ -5,8 +5,10 @@ use Rattle.at_line.specs.declared.line.LineOp.TheVariants as line_ops
 use Rattle.at_line.specs.declared.line.LineReply.TheVariants as line_replies
 use Rattle.at_line.specs.declared.line.What as what
 use Rattle.at_line.specs.declared.line.What.TheVariants as whats
+use Rattle.at_model.specs.World.{World}
 use Rattle.at_model.specs.Step.{step}
 use Rattle.at_model.specs.History.{replay}
+use Rattle.at_line.specs.Paths.{IsLocked}
 use Rattle.at_line.specs.Serial.{IsSerial}
 use Rattle.at_world.specs.Plain.{PlainState, stepped}
 use Rattle.at_script.specs.Parts.{ScriptParts}
@@ -15,13 +17,19 @@ use Rattle.at_thread.specs.Execution.{next_of, ended}
 use Rattle.at_thread.specs.Executions.{Makes, Leads}
 use Rattle.at_run.specs.declared.plain_run.Turn as turns_of
 use Rattle.at_run.specs.declared.plain_run.Turn.TheVariants as turns
-use Rattle.at_run.specs.PlainRun.{IsPlain}
+use Rattle.at_run.specs.Opening.{opening_of}
+use Rattle.at_run.specs.PlainRun.{IsUndisturbed}
+
+-- the line is undisturbed and goes under locks
+abbrev pub IsPlain : what.What → Type 0
+IsPlain l = IsUndisturbed l × IsLocked l
 
 -- The line was done on the world: the operation has its reply and the place after it, and the world is that after its
 -- step. The begin and the end of a section change nothing, and have the place as it stands.
 abbrev pub Tells : PlainState → what.What → PlainState → Type 0
 Tells w (whats.Did place path (line_ops.Of operation) reply) v = (reply ≡ line_replies.Of (step w.world operation).reply) × (v ≡ stepped w operation) × (place.0 ≡ v.place)
-Tells w (whats.Did place path operation reply) v = (v ≡ w) × (place.0 ≡ w.place)
+Tells w (whats.Did place path (line_ops.Begin first second) reply) v = (v ≡ w) × (place.0 ≡ w.place)
+Tells w (whats.Did place path line_ops.Finish reply) v = (v ≡ w) × (place.0 ≡ w.place)
 Tells w (whats.Local local) v = v ≡ w
 
 -- what a turn does to the thread
@@ -33,18 +41,19 @@ Moves p s (turns.Says w) t = Makes (next_of p s) (w ∷ []) t
 -- and to the world
 abbrev pub TellsIn : PlainState → turns_of.Turn → PlainState → Type 0
 TellsIn w (turns.Says l) v = Tells w l v × IsPlain l
-TellsIn w t v = v ≡ w
+TellsIn w turns.Ended v = v ≡ w
+TellsIn w turns.Silent v = v ≡ w
 
 -- the world is that of this history
-abbrev pub IsWorldOf : PlainState → List op.Op → Type 0
-IsWorldOf w history = (w.world ≡ replay history) × (w.place ≡ length history)
+abbrev pub IsWorldOf : World → PlainState → List op.Op → Type 0
+IsWorldOf opened w history = (w.world ≡ replay opened history) × (w.place ≡ length history)
 
 -- These lines lead from one thread and history to another.
 pub record Leading (p : ScriptParts) (s : execution.ThreadState) (lines : List what.What) (t : execution.ThreadState) (w : PlainState) : Type 0 where
   pub steps : ℕ
   pub leads : Leads p steps s lines t
   pub history : List op.Op
-  pub serial : IsSerial [] lines history
+  pub serial : IsSerial (opening_of p) [] lines history
   pub short : length history ≤ length lines
   pub plain : All IsPlain lines
-  pub world : IsWorldOf w history
+  pub world : IsWorldOf (opening_of p) w history

@@ -1,14 +1,23 @@
 //! Laws of runs: what holds of every one. Each does nothing: its contract is the law.
-ghost use Rattle.at_run.specs.Laws.{PlainRunsAreEvents, PlainRunsAreOne};
+ghost use Rattle.at_run.specs.Laws.{SerialRunsAreEvents, SerialRunsAreLinearized, PlainRunsAreOne, LegalRunsOfOneBlockAreSerial};
 
-/// A run on the plain data model is one list of reads and writes of one view, with the begins and ends of sections and the
-/// local lines between them.
-pub fn plain_runs_are_events()
-    ensures { PlainRunsAreEvents }
+/// A run in which one line is done after another is one list of reads and writes of one view, with the begins and ends of
+/// sections and the local lines between them.
+pub fn serial_runs_are_events()
+    ensures { SerialRunsAreEvents }
 {}
 
-/// A script without other blocks than `main` has at most one run on the plain data model, so its transcript is a function of
-/// the script.
+/// A run in which one line is done after another, block by block, is linearized by its places.
+pub fn serial_runs_are_linearized()
+    ensures { SerialRunsAreLinearized }
+{}
+
+/// A script has at most one run on the plain data model, so its transcript is a function of the script.
 pub fn plain_runs_are_one()
     ensures { PlainRunsAreOne }
+{}
+
+/// A legal run of a script of one block is its run on the plain data model, whatever its paths.
+pub fn legal_runs_of_one_block_are_serial()
+    ensures { LegalRunsOfOneBlockAreSerial }
 {}

@@ -6,8 +6,8 @@ ghost use Rattle.at_thread.specs.Execution as execution;
 ghost use Rattle.at_thread.specs.Executions.{Answers};
 ghost use Rattle.at_thread.specs.Runs.{numbered};
 ghost use Rattle.at_model.specs.World.{opening};
-ghost use Rattle.at_run.specs.PlainRun.{IsPlainRun, IsPlain};
-ghost use Rattle.at_run.specs.Turns.{Tells, Moves, TellsIn, Leading};
+ghost use Rattle.at_run.specs.PlainRun.{IsPlainRun};
+ghost use Rattle.at_run.specs.Turns.{IsPlain, Tells, Moves, TellsIn, Leading};
 
 use at_line::{Line, LineOp, LineReply, Ran, What};
 use at_script::{Block, Script, Stmt};
@@ -103,9 +103,10 @@ fn take_turn<'a>(
 {
     match thread.next(script) {
         Next::Ended => Ok(Turn::Ended),
-        Next::Silent => Ok(Turn::Silent),
+        // No read of the plain data model is under way, so a checkpoint does nothing.
+        Next::Silent | Next::Checkpoint => Ok(Turn::Silent),
         Next::Says(local) => Ok(Turn::Says(What::Local(local))),
-        Next::Asks(op, used) => Ok(Turn::Says(did(plain, thread, &op, &used)?)),
+        Next::Asks(op, reply_use) => Ok(Turn::Says(did(plain, thread, &op, &reply_use)?)),
     }
 }
 
@@ -114,25 +115,16 @@ fn did(
     plain: &mut Plain,
     thread: &mut Thread,
     op: &LineOp,
-    used: &ReplyUse,
+    reply_use: &ReplyUse,
 ) -> Result<What, AllocError>
-    ensures answers { IfOk result (λ what. Answers (λ t. t ≡ state_of thread.new) op.now used.now (state_of thread.old) what) }
+    ensures answers { IfOk result (λ what. Answers (λ t. t ≡ state_of thread.new) op.now reply_use.now (state_of thread.old) what) }
     ensures tells { IfOk result (λ what. Tells plain.old what plain.new × IsPlain what) }
 {
     let reply = match op {
-        LineOp::Of(operation) => {
-            let reply = plain.apply(operation)?;
-            thread.accept(used, &reply);
-            LineReply::Of(reply)
-        }
-        LineOp::Begin(_, _) => {
-            thread.accept(used, &Reply::Done);
-            LineReply::Of(Reply::Done)
-        }
-        LineOp::Finish => {
-            thread.accept(used, &Reply::Done);
-            LineReply::Kept
-        }
+        LineOp::Of(operation) => LineReply::Of(plain.apply(operation)?),
+        LineOp::Begin(_, _) => LineReply::Of(Reply::Done),
+        LineOp::Finish => LineReply::Kept,
     };
+    thread.accept(reply_use, &reply);
     Ok(What::Did(plain.place(), Path::Locked, *op, reply))
 }

@@ -1,0 +1,7 @@
+-- The world in which the runs of a script begin.
+use Rattle.at_model.specs.World.{World, opening}
+use Rattle.at_script.specs.Parts.{ScriptParts}
+
+-- Chosen here, by the version of a script's language. There is one version yet, which opens with the class `object` alone.
+abbrev pub opening_of : ScriptParts → World
+opening_of s = opening
