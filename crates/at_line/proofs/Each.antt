@@ -1,7 +1,9 @@
 -- What holds of each element of a list after those before it.
-use Rattle.std.proofs.Common.{◌≡◌, ℕ, zero, suc, List, [], ◌∷◌, ◌++◌, append_assoc, append-nil, take, Some, slice_get, sym, subst, arith}
+use Rattle.std.proofs.Common.{get_or, ◌≡◌, ℕ, zero, suc, ◌<◌, List, [], ◌∷◌, ◌++◌, length, append_assoc, append-nil, take, Some, slice_get, sym, subst, arith}
 use Rattle.std.specs.Prelude.{All, AllPairs}
+use Rattle.std.proofs.lemmas.List.{length-take, get_or-take}
 use Rattle.std.proofs.lemmas.List.Elements.{All-nil, All-cons, All-head, All-tail}
+use Rattle.std.proofs.lemmas.Option.{slice_get-get_or}
 use Rattle.at_line.specs.Lines.{EachAfter}
 
 module _ {X : Type 0} where
@@ -34,6 +36,16 @@ module _ {X : Type 0} where
     each_after-from_pairs (x ∷ xs) pairs =
         each_after-cons (λ before y. All (λ z. R z y) before) x xs (All-nil (λ z. R z x))
         (add_first x xs (λ k d within. pairs 0 (suc k) d (omega arith) (omega arith)) (each_after-from_pairs xs (λ i j d before within. pairs (suc i) (suc j) d (omega arith) (omega arith))))
+
+    -- and the other way round
+    pub pairs-from_each_after : (xs : List X) → EachAfter (λ before y. All (λ z. R z y) before) xs → AllPairs R xs
+    pairs-from_each_after xs each i j d before within =
+        let inside : i < length (take j xs) = omega (arith, length-take j xs) in
+        subst (λ z. R z (get_or xs j d)) (get_or-take j xs i d before) (each j (get_or xs j d) (slice_get-get_or xs j d within) i d inside)
+
+  -- what each element has whatever stands before it
+  pub all-from_each_after : (P : List X → X → Type 0) (Q : X → Type 0) (xs : List X) → ((before : List X) (x : X) → P before x → Q x) → EachAfter P xs → All Q xs
+  all-from_each_after P Q xs so each i d within = so (take i xs) (get_or xs i d) (each i (get_or xs i d) (slice_get-get_or xs i d within))
 
   -- each element of a list that is written out, with those before it
   abbrev pub EachByRecursion : (List X → X → Type 0) → List X → List X → Type 0

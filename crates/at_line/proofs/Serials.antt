@@ -51,7 +51,7 @@ is_from_less m n less (whats.Did place path operation reply) from = (let at = fr
 is_from_less m n less (whats.Local local) from = tt
 
 -- nothing stands at a place of no write
-nothing_before : (place : ℕ) (more : List op.Op) → more ≡ history_at place [] ++ more
+pub nothing_before : (place : ℕ) (more : List op.Op) → more ≡ history_at place [] ++ more
 nothing_before zero more = refl
 nothing_before (suc before) more = refl
 
@@ -60,13 +60,13 @@ PlacedAfter first second = IsPlacedAfter first.what second.what
 
 module _ (opened : World) where
   -- the parts, by line
-  abbrev WriteTrue : List op.Op → Line → Type 0
+  abbrev pub WriteTrue : List op.Op → Line → Type 0
   WriteTrue last line = IsWriteTrue opened last line.what
 
-  abbrev ReadTrue : List op.Op → Line → Type 0
+  abbrev pub ReadTrue : List op.Op → Line → Type 0
   ReadTrue last line = IsReadTrue opened last (length last) line.what
 
-  abbrev StandsFrom : ℕ → Line → Type 0
+  abbrev pub StandsFrom : ℕ → Line → Type 0
   StandsFrom n line = IsFrom n line.what
 
   module _ (last : List op.Op) where
@@ -118,7 +118,7 @@ module _ (opened : World) where
         }
 
   -- the last history up to the length of one that it goes on from
-  cut_at : (last history rest : List op.Op) (n : ℕ) → last ≡ history ++ rest → n ≡ length history → replay opened (take n last) ≡ replay opened history
+  pub cut_at : (last history rest : List op.Op) (n : ℕ) → last ≡ history ++ rest → n ≡ length history → replay opened (take n last) ≡ replay opened history
   cut_at last history rest n whole at = ap (replay opened) (ap (λ xs. take n xs) whole ∙ take_at history rest n (sym at))
 
   module _ (last history : List op.Op) (thread number : ℕ) (lines : List Line) (place : Place) (way : path.Path) (o : op.Op) (reply : line_reply.LineReply) (told : reply ≡ line_replies.Of (step (replay opened history) o).reply) where

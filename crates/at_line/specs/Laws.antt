@@ -34,6 +34,12 @@ SerialLinesAreLinearized =
     → All (λ (line : Line). NamesNoLimit line.what) lines → All (λ (line : Line). IsKeptAlone line.thread line.what) lines
     → (linearized : IsLinearized opened limits lines) × (linearized.history ≡ history)
 
+-- and the other way round: linearized lines of one thread were done one after another, each at the end of the history so far
+abbrev pub OneThreadIsSerial : Type 0
+OneThreadIsSerial =
+    (opened : World) (limits : Limits) (thread : ℕ) (lines : List Line) (linearized : IsLinearized opened limits lines) → All (λ (line : Line). line.thread ≡ thread) lines
+    → IsSerial opened [] (map what_of lines) linearized.history
+
 -- the lines of one thread are in order
 abbrev pub OneThreadIsInOrder : Type 0
 OneThreadIsInOrder = (thread : ℕ) (lines : List Line) → All (λ (line : Line). line.thread ≡ thread) lines → AreInOrder lines

@@ -1,5 +1,5 @@
 //! What is true of lists of lines and of their histories. Each function does nothing: its contract is the law.
-ghost use Rattle.at_line.specs.Laws.{HistoriesAreUnique, HistoriesCountWrites, PlacedWritesAreHistories, LegalHistoriesAreProper, OneThreadIsInOrder, OneThreadIsKept, SerialLinesAreLinearized};
+ghost use Rattle.at_line.specs.Laws.{HistoriesAreUnique, HistoriesCountWrites, PlacedWritesAreHistories, LegalHistoriesAreProper, OneThreadIsInOrder, OneThreadIsKept, OneThreadIsSerial, SerialLinesAreLinearized};
 
 /// Lines that were each done at the end of the history so far are linearized, whatever the limits, where their threads stand
 /// in the order in which they run, none of the lines names a limit, and the sections of a thread that runs alone are kept.
@@ -7,6 +7,12 @@ ghost use Rattle.at_line.specs.Laws.{HistoriesAreUnique, HistoriesCountWrites, P
 pub fn serial_lines_are_linearized()
     ensures linearized { SerialLinesAreLinearized }
     ensures one_thread { OneThreadIsInOrder }
+{}
+
+/// Linearized lines of one thread were done one after another, each at the end of the history so far: a write at the place
+/// after it, another operation at its last place. From the empty history they lead to the history of the list.
+pub fn one_thread_is_serial()
+    ensures { OneThreadIsSerial }
 {}
 
 /// A list of lines has one history, which has as many operations as the list has writes. It has one exactly where each

@@ -6,6 +6,7 @@ fn laws_of_histories_hold() {
     laws::histories_are_unique();
     laws::legal_histories_are_proper();
     laws::serial_lines_are_linearized();
+    laws::one_thread_is_serial();
     laws::one_thread_is_kept();
 }
 
