@@ -1,5 +1,5 @@
 -- Serial lists of lines in parts: what was said first leads to a history, and the rest goes on from there.
-use Rattle.std.proofs.Common.{◌≡◌, ℕ, suc, Bool, true, false, List, [], ◌∷◌, ◌++◌, length, refl}
+use Rattle.std.proofs.Common.{ℕ, Bool, true, false, List, [], ◌∷◌, ◌++◌, refl}
 use Rattle.at_value.specs.declared.operation.Op as op
 use Rattle.at_line.specs.declared.line.LineOp.TheVariants as line_ops
 use Rattle.at_line.specs.declared.line.What as what

@@ -1,9 +1,11 @@
 -- A script has one plain run.
-use Rattle.std.proofs.Common.{◌≡◌, ◌∙◌, refl, sym, ap, subst, ℕ, zero, suc, Bool, true, false, List, [], ◌∷◌, ◌++◌, length, map, Option, Some, None, if◌then◌else◌}
+use Rattle.std.proofs.Common.{◌≡◌, ◌∙◌, refl, sym, ap, subst, ℕ, zero, suc, ◌+◌, ◌<◌, ◌≤◌, ◌==◌, arith, Bool, true, false, List, [], ◌∷◌, ◌++◌, length, map, Option, Some, None, if◌then◌else◌, slice_get, get_or, append_assoc}
 use Rattle.std.specs.Prelude.{All}
+use Rattle.std.proofs.lemmas.Bool.{false≢true}
 use Rattle.std.proofs.lemmas.List.Elements.{All-nil, All-cons, All-head, All-tail}
+use Rattle.std.proofs.lemmas.List.{map-append}
+use Rattle.std.proofs.lemmas.Option.{slice_get-get_or}
 use Rattle.at_value.specs.declared.operation.Op as op
-use Rattle.at_value.specs.declared.reply.Reply as reply
 use Rattle.at_value.specs.declared.reply.Reply.TheVariants as replies
 use Rattle.at_value.specs.declared.reply.Place.{Place}
 use Rattle.at_value.specs.declared.reply.Path as path
@@ -17,162 +19,302 @@ use Rattle.at_line.specs.declared.line.Local as local
 use Rattle.at_line.specs.declared.line.Local.TheVariants as locals
 use Rattle.at_line.specs.declared.line.What as what
 use Rattle.at_line.specs.declared.line.What.TheVariants as whats
-use Rattle.at_line.specs.Lines.{what_of}
+use Rattle.at_line.specs.Lines.{main_thread, finally_thread, what_of}
 use Rattle.at_line.specs.Kept.{whats_of_thread}
+use Rattle.at_line.specs.Paths.{is_locked}
+use Rattle.at_model.specs.declared.last.Final as final
+use Rattle.at_model.specs.World.{World}
 use Rattle.at_model.specs.Step.{step, is_write}
 use Rattle.at_model.specs.History.{replay}
 use Rattle.at_model.specs.Final.{final_of}
 use Rattle.at_line.specs.Serial.{GoesOn, Adds, IsSerial}
+use Rattle.at_script.specs.declared.stmt.Stmt as stmt
 use Rattle.at_thread.specs.declared.next.ReplyUse as used
 use Rattle.at_script.specs.Parts.{ScriptParts}
-use Rattle.at_thread.specs.Execution.{ThreadState, Transition, ended, silent, says, asks, taken, next_of, start}
-use Rattle.at_thread.specs.Executions.{reply_taken, stands_for, TakesReply, Answers, Fits, Leads}
-use Rattle.at_thread.specs.Runs.{numbered, unbound}
+use Rattle.at_thread.specs.Execution.{Variables, ThreadState, Transition, ended, silent, checkpoints, says, asks, taken, next_of, start}
+use Rattle.at_thread.specs.Executions.{can_reply, stands_for, Answers, Fits, Leads}
+use Rattle.at_thread.specs.Runs.{numbered, lines_in_order, whole, Executes, unbound}
+use Rattle.at_thread.specs.Laws.{all_told}
 use Rattle.at_thread.proofs.Numbering.{whats_of_numbered}
-use Rattle.at_thread.proofs.Alone.{alone_lines}
-use Rattle.at_run.specs.PlainRun.{IsPlain}
+use Rattle.at_thread.proofs.Determined.{determined}
+use Rattle.at_run.specs.Opening.{opening_of}
+use Rattle.at_run.specs.PlainRun.{IsPlainRun}
+use Rattle.at_run.specs.Turns.{IsPlain}
 use Rattle.at_run.specs.Laws.{PlainRunsAreOne}
+use Rattle.at_run.proofs.Serial.{serial_split}
 
--- the history after an operation
-abbrev next_history : List op.Op → line_op.LineOp → List op.Op
-next_history history (line_ops.Of o) = if is_write (replay history) o then history ++ o ∷ [] else history
-next_history history o = history
+is_locked_way : (way : path.Path) → is_locked way ≡ true → way ≡ paths.Locked
+is_locked_way paths.Locked is = refl
+is_locked_way paths.Fast is = absurd (false≢true is)
+is_locked_way (paths.Slow m) is = absurd (false≢true is)
 
--- the place and the reply of an operation that is done at the end of a history
-abbrev next_place : List op.Op → line_op.LineOp → ℕ
-next_place history (line_ops.Of o) = if is_write (replay history) o then suc (length history) else length history
-next_place history o = length history
+module _ (opened : World) where
+  -- the history after an operation
+  abbrev next_history : List op.Op → line_op.LineOp → List op.Op
+  next_history history (line_ops.Of o) = if is_write (replay opened history) o then history ++ o ∷ [] else history
+  next_history history o = history
 
-abbrev next_reply : List op.Op → line_op.LineOp → line_reply.LineReply
-next_reply history (line_ops.Of o) = line_replies.Of (step (replay history) o).reply
-next_reply history (line_ops.Begin a b) = line_replies.Of replies.Done
-next_reply history line_ops.Finish = line_replies.Kept
+  -- the place and the reply of an operation that is done at the end of a history
+  abbrev next_place : List op.Op → line_op.LineOp → ℕ
+  next_place history (line_ops.Of o) = if is_write (replay opened history) o then suc (length history) else length history
+  next_place history o = length history
 
-abbrev next_line : List op.Op → line_op.LineOp → what.What
-next_line history o = whats.Did (record { 0 = next_place history o }) paths.Locked o (next_reply history o)
+  abbrev next_reply : List op.Op → line_op.LineOp → line_reply.LineReply
+  next_reply history (line_ops.Of o) = line_replies.Of (step (replay opened history) o).reply
+  next_reply history (line_ops.Begin a b) = line_replies.Of replies.Done
+  next_reply history line_ops.Finish = line_replies.Kept
 
--- What a line of an operation is, at the end of a history, and where it leads.
-record Alone (on : List op.Op → Type 0) (goes : ThreadState → Type 0) (u : used.ReplyUse) (s : ThreadState) (history : List op.Op) (o : line_op.LineOp) (w : what.What) : Type 0 where
-  pub line : w ≡ next_line history o
-  pub rest : on (next_history history o)
-  pub taken_on : TakesReply goes u s (reply_taken o (next_reply history o))
+  abbrev next_line : List op.Op → line_op.LineOp → what.What
+  next_line history o = whats.Did (record { 0 = next_place history o }) paths.Locked o (next_reply history o)
 
-begin_replied : (goes : ThreadState → Type 0) (u : used.ReplyUse) (s : ThreadState) (a : ℕ) (b : Option ℕ) (r : line_reply.LineReply) → TakesReply goes u s (reply_taken (line_ops.Begin a b) r) → r ≡ line_replies.Of replies.Done
-begin_replied goes u s a b (line_replies.Of replies.Done) h = refl
-begin_replied goes u s a b r h = absurd h
+  -- What a line of an operation is, at the end of a history, and where it leads.
+  record Alone (on : List op.Op → Type 0) (goes : ThreadState → Type 0) (u : used.ReplyUse) (s : ThreadState) (history : List op.Op) (o : line_op.LineOp) (w : what.What) : Type 0 where
+    pub line : w ≡ next_line history o
+    pub rest : on (next_history history o)
+    pub takes : goes (taken u (next_reply history o) s)
 
-line_is : (place : Place) (n : ℕ) (way : path.Path) (p o : line_op.LineOp) (r q : line_reply.LineReply) → place.0 ≡ n → way ≡ paths.Locked → p ≡ o → r ≡ q → whats.Did place way p r ≡ whats.Did (record { 0 = n }) paths.Locked o q
-line_is place n way p o r q at locked same replied =
-    ap (λ (m : ℕ). whats.Did (record { 0 = m }) way p r) at
-    ∙ (ap (λ (x : path.Path). whats.Did (record { 0 = n }) x p r) locked
-    ∙ (ap (λ (x : line_op.LineOp). whats.Did (record { 0 = n }) paths.Locked x r) same ∙ ap (λ (x : line_reply.LineReply). whats.Did (record { 0 = n }) paths.Locked o x) replied))
+  begin_replied : (a : ℕ) (b : Option ℕ) (r : line_reply.LineReply) → can_reply (line_ops.Begin a b) r ≡ true → r ≡ line_replies.Of replies.Done
+  begin_replied a b (line_replies.Of replies.Done) h = refl
+  begin_replied a b r h = absurd (false≢true h)
 
-module _ (on : List op.Op → Type 0) (goes : ThreadState → Type 0) (u : used.ReplyUse) (s : ThreadState) (history : List op.Op) where
-  gone : (b : Bool) (o : op.Op) (place : ℕ) → GoesOn on b history place o → (place ≡ (if b then suc (length history) else length history)) × on (if b then history ++ o ∷ [] else history)
-  gone true o place h = h
-  gone false o place h = h
+  line_is : (place : Place) (n : ℕ) (way : path.Path) (p o : line_op.LineOp) (r q : line_reply.LineReply) → place.0 ≡ n → way ≡ paths.Locked → p ≡ o → r ≡ q → whats.Did place way p r ≡ whats.Did (record { 0 = n }) paths.Locked o q
+  line_is place n way p o r q at locked same replied =
+      ap (λ (m : ℕ). whats.Did (record { 0 = m }) way p r) at
+      ∙ (ap (λ (x : path.Path). whats.Did (record { 0 = n }) x p r) locked
+      ∙ (ap (λ (x : line_op.LineOp). whats.Did (record { 0 = n }) paths.Locked x r) same ∙ ap (λ (x : line_reply.LineReply). whats.Did (record { 0 = n }) paths.Locked o x) replied))
 
-  did_alone : (place : Place) (way : path.Path) (p o : line_op.LineOp) (r : line_reply.LineReply) → p ≡ o → Adds on history (whats.Did place way o r) → IsPlain (whats.Did place way o r) → TakesReply goes u s (reply_taken o r) → Alone on goes u s history o (whats.Did place way p r)
-  did_alone place way p (line_ops.Of o) r same adds plain takes =
-      let g = gone (is_write (replay history) o) o place.0 adds.1 in
+  module _ (on : List op.Op → Type 0) (goes : ThreadState → Type 0) (u : used.ReplyUse) (s : ThreadState) (history : List op.Op) where
+    gone : (b : Bool) (o : op.Op) (place : ℕ) → GoesOn on b history place o → (place ≡ (if b then suc (length history) else length history)) × on (if b then history ++ o ∷ [] else history)
+    gone true o place h = h
+    gone false o place h = h
+
+    did_alone : (place : Place) (way : path.Path) (p o : line_op.LineOp) (r : line_reply.LineReply) → p ≡ o → Adds opened on history (whats.Did place way o r) → IsPlain (whats.Did place way o r) → can_reply o r ≡ true → goes (taken u r s) → Alone on goes u s history o (whats.Did place way p r)
+    did_alone place way p (line_ops.Of o) r same adds plain can takes =
+        let g = gone (is_write (replay opened history) o) o place.0 adds.1 in
+        record {
+          line = line_is place (next_place history (line_ops.Of o)) way p (line_ops.Of o) r (next_reply history (line_ops.Of o)) g.0 (is_locked_way way plain.1) same adds.0;
+          rest = g.1;
+          takes = subst (λ (q : line_reply.LineReply). goes (taken u q s)) adds.0 takes;
+        }
+    did_alone place way p (line_ops.Begin a b) r same adds plain can takes =
+        let replied = begin_replied a b r can in
+        record {
+          line = line_is place (length history) way p (line_ops.Begin a b) r (line_replies.Of replies.Done) adds.0 (is_locked_way way plain.1) same replied;
+          rest = adds.1;
+          takes = subst (λ (q : line_reply.LineReply). goes (taken u q s)) replied takes;
+        }
+    did_alone place way p line_ops.Finish r same adds plain can takes = record {
+      line = line_is place (length history) way p line_ops.Finish r line_replies.Kept adds.0 (is_locked_way way plain.1) same plain.0;
+      rest = adds.1;
+      takes = subst (λ (q : line_reply.LineReply). goes (taken u q s)) plain.0 takes;
+    }
+
+    -- no line stands in the place of an operation
+    none_stands : (o : line_op.LineOp) (l : local.Local) → stands_for o l ≡ true → IsPlain (whats.Local l) → ⊥
+    none_stands o (locals.Full place) e h = h.0
+    none_stands o (locals.Worn sequence) e h = h.0
+    none_stands (line_ops.Of o) l e h = cc
+    none_stands (line_ops.Begin a b) l e h = cc
+    none_stands line_ops.Finish l e h = cc
+
+    line_alone : (o : line_op.LineOp) (w : what.What) → Answers goes o u s w → Adds opened on history w → IsPlain w → Alone on goes u s history o w
+    line_alone o (whats.Did place way p r) answers adds plain =
+        did_alone place way p o r answers.0 (subst (λ (x : line_op.LineOp). Adds opened on history (whats.Did place way x r)) answers.0 adds) (subst (λ (x : line_op.LineOp). IsPlain (whats.Did place way x r)) answers.0 plain) answers.1 answers.2
+    line_alone o (whats.Local l) answers adds plain = absurd (none_stands o l answers.0 plain)
+
+  -- two lists of lines, and the histories to which they lead, are the same
+  abbrev Same : List what.What → List what.What → List op.Op → List op.Op → Type 0
+  Same first second one other = (first ≡ second) × (one ≡ other)
+
+  module _ (on off : ThreadState → List what.What → Type 0) (one other : List op.Op)
+      (same : (s : ThreadState) (first second : List what.What) (history : List op.Op) → on s first → off s second → IsSerial opened history first one → IsSerial opened history second other → All IsPlain first → All IsPlain second → Same first second one other) where
+    both : (next : Transition) (first second : List what.What) (history : List op.Op) → Fits on next first → Fits off next second → IsSerial opened history first one → IsSerial opened history second other → All IsPlain first → All IsPlain second → Same first second one other
+    both ended first second history f g a b x y = absurd f
+    both (silent s) first second history f g a b x y = same s first second history f g a b x y
+    both (checkpoints s) first second history f g a b x y = same s first second history f g a b x y
+    both (says l s) [] second history f g a b x y = absurd f
+    both (says l s) (w ∷ first) [] history f g a b x y = absurd g
+    both (says l s) (w ∷ first) (v ∷ second) history f g a b x y =
+        let k = same s first second history f.1 g.1
+        (subst (λ z. Adds opened (λ longer. IsSerial opened longer first one) history z) f.0 a)
+        (subst (λ z. Adds opened (λ longer. IsSerial opened longer second other) history z) g.0 b) (All-tail IsPlain w first x) (All-tail IsPlain v second y)
+        in
+        (ap (λ z. z ∷ first) (f.0 ∙ sym g.0) ∙ ap (λ rest. v ∷ rest) k.0, k.1)
+    both (asks o k s) [] second history f g a b x y = absurd f
+    both (asks o k s) (w ∷ first) [] history f g a b x y = absurd g
+    both (asks o k s) (w ∷ first) (v ∷ second) history f g a b x y =
+        let m = line_alone (λ longer. IsSerial opened longer first one) (λ t. on t first) k s history o w f a (All-head IsPlain w first x) in
+        let n = line_alone (λ longer. IsSerial opened longer second other) (λ t. off t second) k s history o v g b (All-head IsPlain v second y) in
+        let r = same (taken k (next_reply history o) s) first second (next_history history o) m.takes n.takes m.rest n.rest (All-tail IsPlain w first x) (All-tail IsPlain v second y) in
+        (ap (λ z. z ∷ first) (m.line ∙ sym n.line) ∙ ap (λ rest. v ∷ rest) r.0, r.1)
+
+  -- nothing leads on from a state that has ended
+  stays : (p : ScriptParts) (n : ℕ) (s : ThreadState) (lines : List what.What) (u : ThreadState) → next_of p s ≡ ended → Leads p n s lines u → lines ≡ []
+  stays p zero s lines u e l = l.0
+  stays p (suc n) s lines u e l = absurd (subst (λ (next : Transition). Fits (λ x rest. Leads p n x rest u) next lines) e l)
+
+  nothing : (first second : List what.What) (history one other : List op.Op) → first ≡ [] → second ≡ [] → IsSerial opened history first one → IsSerial opened history second other → Same first second one other
+  nothing first second history one other f g a b = (
+    f ∙ sym g,
+    sym (subst (λ (ws : List what.What). IsSerial opened history ws one) f a) ∙ subst (λ (ws : List what.What). IsSerial opened history ws other) g b,
+  )
+
+  same_leads : (p : ScriptParts) (n m : ℕ) (s : ThreadState) (first second : List what.What) (t u : ThreadState) (history one other : List op.Op) → next_of p t ≡ ended → next_of p u ≡ ended → Leads p n s first t → Leads p m s second u
+      → IsSerial opened history first one → IsSerial opened history second other → All IsPlain first → All IsPlain second → Same first second one other
+  same_leads p zero m s first second t u history one other et eu l k a b x y = nothing first second history one other l.0 (stays p m s second u (ap (next_of p) l.1 ∙ et) k) a b
+  same_leads p (suc n) zero s first second t u history one other et eu l k a b x y = nothing first second history one other (stays p (suc n) s first t (ap (next_of p) k.1 ∙ eu) l) k.0 a b
+  same_leads p (suc n) (suc m) s first second t u history one other et eu l k a b x y =
+      both (λ v rest. Leads p n v rest t) (λ v rest. Leads p m v rest u) one other
+      (λ v c d h f g i j q r. same_leads p n m v c d t u h one other et eu f g i j q r) (next_of p s) first second history l k a b x y
+
+-- One block
+
+-- executions of a block from one history are the same, and so are the histories to which they lead
+abbrev IsBlockSame : World → List what.What → List what.What → Type 0
+IsBlockSame opened first second = (history one other : List op.Op) → IsSerial opened history first one → IsSerial opened history second other → Same opened first second one other
+
+block_same : (s : ScriptParts) (block : List stmt.Stmt) (before first_after second_after : Variables) (first second : List what.What) → Executes s block before first first_after → Executes s block before second second_after
+    → All IsPlain first → All IsPlain second → (opened : World) → IsBlockSame opened first second
+block_same s block before first_after second_after first second a b x y opened history one other f g =
+    same_leads opened s a.runs.1 b.runs.1 (start block before) first second a.end b.end history one other a.runs.0 b.runs.0 a.runs.2 b.runs.2 f g x y
+
+-- where their lines are the same, they leave the same variables
+variables_same : (s : ScriptParts) (block : List stmt.Stmt) (before first_after second_after : Variables) (first second : List what.What) → Executes s block before first first_after → Executes s block before second second_after
+    → first ≡ second → first_after ≡ second_after
+variables_same s block before first_after second_after first second a b same =
+    let ends = determined s (start block before) a.end b.end first second a.runs b.runs (ap all_told same) in
+    sym a.leaves ∙ (ap (λ (t : ThreadState). t.variables) ends.1 ∙ b.leaves)
+
+-- Blocks in order
+
+abbrev says_in_order : ℕ → ℕ → (ℕ → List what.What) → List what.What
+says_in_order zero thread told = []
+says_in_order (suc count) thread told = told thread ++ says_in_order count (suc thread) told
+
+whats_in_order : (count thread : ℕ) (told : ℕ → List what.What) → map what_of (lines_in_order count thread told) ≡ says_in_order count thread told
+whats_in_order zero thread told = refl
+whats_in_order (suc count) thread told =
+    map-append what_of (numbered thread 1 (told thread)) (lines_in_order count (suc thread) told)
+    ∙ (ap (λ ws. ws ++ map what_of (lines_in_order count (suc thread) told)) (whats_of_numbered thread 1 (told thread)) ∙ ap (λ ws. told thread ++ ws) (whats_in_order count (suc thread) told))
+
+whats_of_whole : (count : ℕ) (told : ℕ → List what.What) → map what_of (whole count told) ≡ told main_thread ++ (says_in_order count 1 told ++ told finally_thread)
+whats_of_whole count told =
+    map-append what_of (lines_in_order (suc count) main_thread told) (numbered finally_thread 1 (told finally_thread))
+    ∙ (ap (λ ws. ws ++ map what_of (numbered finally_thread 1 (told finally_thread))) (whats_in_order (suc count) main_thread told)
+    ∙ (ap (λ ws. (told main_thread ++ says_in_order count 1 told) ++ ws) (whats_of_numbered finally_thread 1 (told finally_thread))
+    ∙ append_assoc (told main_thread) (says_in_order count 1 told) (told finally_thread)))
+
+module _ (opened : World) (first second : ℕ → List what.What) (one other : List op.Op) (more_first more_second : List what.What) where
+  -- the lines of the threads are the same, and one history leads on from both
+  record Threads (count thread : ℕ) : Type 0 where
+    pub lines : lines_in_order count thread first ≡ lines_in_order count thread second
+    pub middle : List op.Op
+    pub on : IsSerial opened middle more_first one
+    pub off : IsSerial opened middle more_second other
+
+  threads_same : (count thread : ℕ) (history : List op.Op) → ((t : ℕ) → thread ≤ t → t < thread + count → IsBlockSame opened (first t) (second t))
+      → IsSerial opened history (says_in_order count thread first ++ more_first) one → IsSerial opened history (says_in_order count thread second ++ more_second) other → Threads count thread
+  threads_same zero thread history each f g = record { lines = refl; middle = history; on = f; off = g }
+  threads_same (suc count) thread history each f g =
+      let k = serial_split opened (first thread) (says_in_order count (suc thread) first ++ more_first) history one (subst (λ ws. IsSerial opened history ws one) (append_assoc (first thread) (says_in_order count (suc thread) first) more_first) f) in
+      let l = serial_split opened (second thread) (says_in_order count (suc thread) second ++ more_second) history other (subst (λ ws. IsSerial opened history ws other) (append_assoc (second thread) (says_in_order count (suc thread) second) more_second) g) in
+      let here = each thread (omega arith) (omega arith) history k.0 l.0 k.1 l.1 in
+      let rest = threads_same count (suc thread) l.0 (λ t from below. each t (omega arith) (omega arith)) (subst (λ h. IsSerial opened h (says_in_order count (suc thread) first ++ more_first) one) here.1 k.2) l.2 in
       record {
-        line = line_is place (next_place history (line_ops.Of o)) way p (line_ops.Of o) r (next_reply history (line_ops.Of o)) g.0 plain same adds.0;
-        rest = g.1;
-        taken_on = subst (λ (q : line_reply.LineReply). TakesReply goes u s (reply_taken (line_ops.Of o) q)) adds.0 takes;
+        lines = ap (λ ws. numbered thread 1 ws ++ lines_in_order count (suc thread) first) here.0 ∙ ap (λ ls. numbered thread 1 (second thread) ++ ls) rest.lines;
+        middle = rest.middle;
+        on = rest.on;
+        off = rest.off;
       }
-  did_alone place way p (line_ops.Begin a b) r same adds plain takes =
-      let replied = begin_replied goes u s a b r takes in
-      record {
-        line = line_is place (length history) way p (line_ops.Begin a b) r (line_replies.Of replies.Done) adds.0 plain same replied;
-        rest = adds.1;
-        taken_on = subst (λ (q : line_reply.LineReply). TakesReply goes u s (reply_taken (line_ops.Begin a b) q)) replied takes;
-      }
-  did_alone place way p line_ops.Finish r same adds plain takes = record {
-    line = line_is place (length history) way p line_ops.Finish r line_replies.Kept adds.0 plain.0 same plain.1;
-    rest = adds.1;
-    taken_on = subst (λ (q : line_reply.LineReply). TakesReply goes u s (reply_taken line_ops.Finish q)) plain.1 takes;
-  }
 
-  -- no line stands in the place of an operation
-  none_stands : (o : line_op.LineOp) (l : local.Local) → stands_for o l ≡ true → IsPlain (whats.Local l) → ⊥
-  none_stands o (locals.Full place) e h = h
-  none_stands o (locals.Worn sequence) e h = h
-  none_stands (line_ops.Of o) l e h = cc
-  none_stands (line_ops.Begin a b) l e h = cc
-  none_stands line_ops.Finish l e h = cc
+-- what is so of all lines is so of those of a thread
+of_thread : (P : what.What → Type 0) (thread : ℕ) (lines : List Line) → All (λ (line : Line). P line.what) lines → All P (whats_of_thread thread lines)
+of_thread P thread [] all = All-nil P
+of_thread P thread (line ∷ lines) all =
+    let rest = of_thread P thread lines (All-tail (λ (l : Line). P l.what) line lines all) in
+    elim (line.thread == thread) as (λ (own : Bool). All P (if own then line.what ∷ whats_of_thread thread lines else whats_of_thread thread lines)) [
+      | true ↦ All-cons P line.what (whats_of_thread thread lines) (All-head (λ (l : Line). P l.what) line lines all) rest
+      | false ↦ rest
+    ]
 
-  line_alone : (o : line_op.LineOp) (w : what.What) → Answers goes o u s w → Adds on history w → IsPlain w → Alone on goes u s history o w
-  line_alone o (whats.Did place way p r) answers adds plain =
-      did_alone place way p o r answers.0 (subst (λ (x : line_op.LineOp). Adds on history (whats.Did place way x r)) answers.0 adds) (subst (λ (x : line_op.LineOp). IsPlain (whats.Did place way x r)) answers.0 plain) answers.1
-  line_alone o (whats.Local l) answers adds plain = absurd (none_stands o l answers.0 plain)
+-- A whole run
 
--- two lists of lines, and the histories to which they lead, are the same
-abbrev Same : List what.What → List what.What → List op.Op → List op.Op → Type 0
-Same first second one other = (first ≡ second) × (one ≡ other)
+module _ (s : ScriptParts) (first second : List Line) (first_ends second_ends : final.Final) (a : IsPlainRun s first first_ends) (b : IsPlainRun s second second_ends) where
+  abbrev ws : ℕ → List what.What
+  ws thread = whats_of_thread thread first
 
-module _ (on off : ThreadState → List what.What → Type 0) (one other : List op.Op)
-    (same : (s : ThreadState) (first second : List what.What) (history : List op.Op) → on s first → off s second → IsSerial history first one → IsSerial history second other → All IsPlain first → All IsPlain second → Same first second one other) where
-  both : (next : Transition) (first second : List what.What) (history : List op.Op) → Fits on next first → Fits off next second → IsSerial history first one → IsSerial history second other → All IsPlain first → All IsPlain second → Same first second one other
-  both ended first second history f g a b x y = absurd f
-  both (silent s) first second history f g a b x y = same s first second history f g a b x y
-  both (says l s) [] second history f g a b x y = absurd f
-  both (says l s) (w ∷ first) [] history f g a b x y = absurd g
-  both (says l s) (w ∷ first) (v ∷ second) history f g a b x y =
-      let k = same s first second history f.1 g.1
-      (subst (λ z. Adds (λ longer. IsSerial longer first one) history z) f.0 a)
-      (subst (λ z. Adds (λ longer. IsSerial longer second other) history z) g.0 b) (All-tail IsPlain w first x) (All-tail IsPlain v second y)
-      in
-      (ap (λ z. z ∷ first) (f.0 ∙ sym g.0) ∙ ap (λ rest. v ∷ rest) k.0, k.1)
-  both (asks o k s) [] second history f g a b x y = absurd f
-  both (asks o k s) (w ∷ first) [] history f g a b x y = absurd g
-  both (asks o k s) (w ∷ first) (v ∷ second) history f g a b x y =
-      let m = line_alone (λ longer. IsSerial longer first one) (λ t. on t first) k s history o w f a (All-head IsPlain w first x) in
-      let n = line_alone (λ longer. IsSerial longer second other) (λ t. off t second) k s history o v g b (All-head IsPlain v second y) in
-      let r = took (reply_taken o (next_reply history o)) m.taken_on n.taken_on m.rest n.rest in
-      (ap (λ z. z ∷ first) (m.line ∙ sym n.line) ∙ ap (λ rest. v ∷ rest) r.0, r.1)
-    where
-      took : (reply : Option reply.Reply) → TakesReply (λ t. on t first) k s reply → TakesReply (λ t. off t second) k s reply → IsSerial (next_history history o) first one → IsSerial (next_history history o) second other → Same first second one other
-      took None c d e h = absurd c
-      took (Some q) c d e h = same (taken k q s) first second (next_history history o) c d e h (All-tail IsPlain w first x) (All-tail IsPlain v second y)
+  abbrev vs : ℕ → List what.What
+  vs thread = whats_of_thread thread second
 
--- nothing leads on from a state that has ended
-stays : (p : ScriptParts) (n : ℕ) (s : ThreadState) (lines : List what.What) (u : ThreadState) → next_of p s ≡ ended → Leads p n s lines u → lines ≡ []
-stays p zero s lines u e l = l.0
-stays p (suc n) s lines u e l = absurd (subst (λ (next : Transition). Fits (λ x rest. Leads p n x rest u) next lines) e l)
+  abbrev opened : World
+  opened = opening_of s
 
-nothing : (first second : List what.What) (history one other : List op.Op) → first ≡ [] → second ≡ [] → IsSerial history first one → IsSerial history second other → Same first second one other
-nothing first second history one other f g a b = (
-  f ∙ sym g,
-  sym (subst (λ (ws : List what.What). IsSerial history ws one) f a) ∙ subst (λ (ws : List what.What). IsSerial history ws other) g b,
-)
+  abbrev count : ℕ
+  count = length s.threads
 
-same_leads : (p : ScriptParts) (n m : ℕ) (s : ThreadState) (first second : List what.What) (t u : ThreadState) (history one other : List op.Op) → next_of p t ≡ ended → next_of p u ≡ ended → Leads p n s first t → Leads p m s second u
-    → IsSerial history first one → IsSerial history second other → All IsPlain first → All IsPlain second → Same first second one other
-same_leads p zero m s first second t u history one other et eu l k a b x y = nothing first second history one other l.0 (stays p m s second u (ap (next_of p) l.1 ∙ et) k) a b
-same_leads p (suc n) zero s first second t u history one other et eu l k a b x y = nothing first second history one other (stays p (suc n) s first t (ap (next_of p) k.1 ∙ eu) l) k.0 a b
-same_leads p (suc n) (suc m) s first second t u history one other et eu l k a b x y =
-    both (λ v rest. Leads p n v rest t) (λ v rest. Leads p m v rest u) one other
-    (λ v c d h f g i j q r. same_leads p n m v c d t u h one other et eu f g i j q r) (next_of p s) first second history l k a b x y
+  first_plain : (thread : ℕ) → All IsPlain (ws thread)
+  first_plain thread = of_thread IsPlain thread first (λ k d within. (a.serial_run.undisturbed k d within, a.locked k d within))
 
-whats_plain : (lines : List Line) (told : List what.What) → map what_of lines ≡ told → All (λ (line : Line). IsPlain line.what) lines → All IsPlain told
-whats_plain lines told is all = subst (All IsPlain) is (mapped lines all)
-  where
-    mapped : (lines : List Line) → All (λ (line : Line). IsPlain line.what) lines → All IsPlain (map what_of lines)
-    mapped [] all = All-nil IsPlain
-    mapped (line ∷ lines) all = All-cons IsPlain line.what (map what_of lines) (All-head (λ (line : Line). IsPlain line.what) line lines all) (mapped lines (All-tail (λ (line : Line). IsPlain line.what) line lines all))
+  second_plain : (thread : ℕ) → All IsPlain (vs thread)
+  second_plain thread = of_thread IsPlain thread second (λ k d within. (b.serial_run.undisturbed k d within, b.locked k d within))
+
+  first_said : map what_of first ≡ ws main_thread ++ (says_in_order count 1 ws ++ ws finally_thread)
+  first_said = ap (map what_of) a.serial_run.runs.order ∙ whats_of_whole count ws
+
+  second_said : map what_of second ≡ vs main_thread ++ (says_in_order count 1 vs ++ vs finally_thread)
+  second_said = ap (map what_of) b.serial_run.runs.order ∙ whats_of_whole count vs
+
+  first_main : (middle : List op.Op) × IsSerial opened [] (ws main_thread) middle × IsSerial opened middle (says_in_order count 1 ws ++ ws finally_thread) a.serial_run.history
+  first_main = serial_split opened (ws main_thread) (says_in_order count 1 ws ++ ws finally_thread) [] a.serial_run.history (subst (λ said. IsSerial opened [] said a.serial_run.history) first_said a.serial_run.serial)
+
+  second_main : (middle : List op.Op) × IsSerial opened [] (vs main_thread) middle × IsSerial opened middle (says_in_order count 1 vs ++ vs finally_thread) b.serial_run.history
+  second_main = serial_split opened (vs main_thread) (says_in_order count 1 vs ++ vs finally_thread) [] b.serial_run.history (subst (λ said. IsSerial opened [] said b.serial_run.history) second_said b.serial_run.serial)
+
+  main_same : Same opened (ws main_thread) (vs main_thread) first_main.0 second_main.0
+  main_same =
+      block_same s s.main (unbound s) a.serial_run.runs.variables b.serial_run.runs.variables (ws main_thread) (vs main_thread) a.serial_run.runs.main b.serial_run.runs.main
+      (first_plain main_thread) (second_plain main_thread) opened [] first_main.0 second_main.0 first_main.1 second_main.1
+
+  same_variables : a.serial_run.runs.variables ≡ b.serial_run.runs.variables
+  same_variables = variables_same s s.main (unbound s) a.serial_run.runs.variables b.serial_run.runs.variables (ws main_thread) (vs main_thread) a.serial_run.runs.main b.serial_run.runs.main main_same.0
+
+  each_thread : (t : ℕ) → 1 ≤ t → t < 1 + count → IsBlockSame opened (ws t) (vs t)
+  each_thread zero from below = absurd (omega arith)
+  each_thread (suc i) from below =
+      let block = get_or s.threads i [] in
+      let is : slice_get s.threads i ≡ Some block = slice_get-get_or s.threads i [] (omega arith) in
+      let x = a.serial_run.runs.threads i block is in
+      let y = b.serial_run.runs.threads i block is in
+      block_same s block a.serial_run.runs.variables x.0 y.0 (ws (suc i)) (vs (suc i)) x.1 (subst (λ v. Executes s block v (vs (suc i)) y.0) (sym same_variables) y.1)
+      (first_plain (suc i)) (second_plain (suc i)) opened
+
+  nothing_same : ws finally_thread ≡ [] → vs finally_thread ≡ [] → IsBlockSame opened (ws finally_thread) (vs finally_thread)
+  nothing_same none other_none history one other f g = nothing opened (ws finally_thread) (vs finally_thread) history one other none other_none f g
+
+  finally_same : (block : Option (List stmt.Stmt)) → s.finally ≡ block → IsBlockSame opened (ws finally_thread) (vs finally_thread)
+  finally_same None is = nothing_same (a.serial_run.runs.no_finally is) (b.serial_run.runs.no_finally is)
+  finally_same (Some block) is =
+      let x = a.serial_run.runs.finally block is in
+      let y = b.serial_run.runs.finally block is in
+      block_same s block a.serial_run.runs.variables x.0 y.0 (ws finally_thread) (vs finally_thread) x.1 (subst (λ v. Executes s block v (vs finally_thread) y.0) (sym same_variables) y.1)
+      (first_plain finally_thread) (second_plain finally_thread) opened
+
+  threads : Threads opened ws vs a.serial_run.history b.serial_run.history (ws finally_thread) (vs finally_thread) count 1
+  threads =
+      threads_same opened ws vs a.serial_run.history b.serial_run.history (ws finally_thread) (vs finally_thread) count 1 second_main.0 each_thread
+      (subst (λ h. IsSerial opened h (says_in_order count 1 ws ++ ws finally_thread) a.serial_run.history) main_same.1 first_main.2) second_main.2
+
+  last_same : Same opened (ws finally_thread) (vs finally_thread) a.serial_run.history b.serial_run.history
+  last_same = finally_same s.finally refl threads.middle a.serial_run.history b.serial_run.history threads.on threads.off
+
+  whole_same : whole count ws ≡ whole count vs
+  whole_same =
+      ap (λ (said : List what.What). (numbered main_thread 1 said ++ lines_in_order count 1 ws) ++ numbered finally_thread 1 (ws finally_thread)) main_same.0
+      ∙ (ap (λ (lines : List Line). (numbered main_thread 1 (vs main_thread) ++ lines) ++ numbered finally_thread 1 (ws finally_thread)) threads.lines
+      ∙ ap (λ (said : List what.What). (numbered main_thread 1 (vs main_thread) ++ lines_in_order count 1 vs) ++ numbered finally_thread 1 said) last_same.0)
 
 pub plain_unique : PlainRunsAreOne
-plain_unique s first second first_ends second_ends threads finally a b =
-    let ws = whats_of_thread 0 first in
-    let vs = whats_of_thread 0 second in
-    let first_is = alone_lines s first threads finally a.runs in
-    let second_is = alone_lines s second threads finally b.runs in
-    let first_says : map what_of first ≡ ws = ap (map what_of) first_is ∙ whats_of_numbered 0 1 ws in
-    let second_says : map what_of second ≡ vs = ap (map what_of) second_is ∙ whats_of_numbered 0 1 vs in
-    let m = a.runs.main in
-    let n = b.runs.main in
-    let k = same_leads s m.runs.1 n.runs.1 (start s.main (unbound s)) ws vs m.end n.end [] a.history b.history m.runs.0 n.runs.0 m.runs.2 n.runs.2
-    (subst (λ (x : List what.What). IsSerial [] x a.history) first_says a.serial) (subst (λ (x : List what.What). IsSerial [] x b.history) second_says b.serial)
-    (whats_plain first ws first_says a.plain) (whats_plain second vs second_says b.plain)
-    in
-    (first_is ∙ (ap (numbered 0 1) k.0 ∙ sym second_is), a.ends ∙ (ap (λ history. final_of (replay history)) k.1 ∙ sym b.ends))
+plain_unique s first second first_ends second_ends a b = (
+  a.serial_run.runs.order ∙ (whole_same s first second first_ends second_ends a b ∙ sym b.serial_run.runs.order),
+  a.serial_run.ends ∙ (ap (λ history. final_of (replay (opening_of s) history)) (last_same s first second first_ends second_ends a b).1 ∙ sym b.serial_run.ends),
+)
