@@ -3,6 +3,7 @@ pub mod Words
 pub mod Literals
 pub mod Shapes
 pub mod Tables
+pub mod Operands
 pub mod Parts
 pub mod Script
 pub mod Reading

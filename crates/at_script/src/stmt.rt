@@ -1,4 +1,6 @@
 //! Statements of a script.
+ghost use Rattle.std.specs.Prelude.{◌≡◌};
+
 use at_value::{Bases, Class, Func, Name, Value};
 
 /// Where a statement takes a value from.
@@ -35,6 +37,24 @@ pub enum Target {
     Other,
     /// The result of the last read or call.
     It,
+}
+
+impl From<Target> for Operand {
+    ghost use Rattle.at_script.specs.Operands.{operand_of};
+
+    ghost from_gives = { λ target operand. operand ≡ operand_of target };
+
+    /// The operand with the value of the target.
+    fn from(target: Target) -> Operand {
+        match target {
+            Target::Class(class) => Operand::Value(Value::Class(class)),
+            Target::Var(variable) => Operand::Var(variable),
+            Target::SelfArg => Operand::SelfArg,
+            Target::Arg => Operand::Arg,
+            Target::Other => Operand::Other,
+            Target::It => Operand::It,
+        }
+    }
 }
 
 /// A statement.
