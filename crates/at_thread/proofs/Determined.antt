@@ -1,6 +1,7 @@
 -- Executions that are told the same are the same.
-use Rattle.std.proofs.Common.{◌≡◌, ◌∙◌, refl, sym, ap, subst, ℕ, zero, suc, true, List, [], ◌∷◌, ◌++◌, Option, Some, None}
-use Rattle.at_value.specs.declared.reply.Reply as reply
+use Rattle.std.proofs.Common.{◌≡◌, ◌∙◌, refl, sym, ap, subst, ℕ, zero, suc, true, List, [], ◌∷◌, ◌++◌}
+use Rattle.at_value.specs.declared.operation.Op as op
+use Rattle.at_line.specs.declared.line.LineReply as line_reply
 use Rattle.at_line.specs.declared.line.LineOp as line_op
 use Rattle.at_line.specs.declared.line.LineOp.TheVariants as line_ops
 use Rattle.at_line.specs.declared.line.Local as local
@@ -8,15 +9,22 @@ use Rattle.at_line.specs.declared.line.Local.TheVariants as locals
 use Rattle.at_line.specs.declared.line.What as what
 use Rattle.at_line.specs.declared.line.What.TheVariants as whats
 use Rattle.at_script.specs.Parts.{ScriptParts}
-use Rattle.at_thread.specs.Execution.{ThreadState, Transition, ended, silent, says, asks, dropped, taken, next_of}
-use Rattle.at_thread.specs.Executions.{reply_taken, stands_for, TakesReply, Fits, Leads, IsExecution}
+use Rattle.at_thread.specs.Execution.{ThreadState, Transition, ended, silent, checkpoints, says, asks, dropped, taken, next_of}
+use Rattle.at_thread.specs.Executions.{stands_for_op, stands_for, Fits, Leads, IsExecution}
 use Rattle.at_thread.specs.Laws.{Told, replied, declined, told_by, all_told}
 
 -- a line that stands in the place of an operation is told
+told_declined_op : (o : op.Op) (l : local.Local) → stands_for_op o l ≡ true → told_by (whats.Local l) ≡ declined l ∷ []
+told_declined_op o (locals.Full place) e = refl
+told_declined_op o (locals.Worn sequence) e = refl
+told_declined_op o locals.Depth e = cc
+told_declined_op o locals.Budget e = cc
+told_declined_op o locals.Kind e = cc
+told_declined_op o (locals.Unbound a) e = cc
+told_declined_op o locals.NotCallable e = cc
+
 told_declined : (o : line_op.LineOp) (l : local.Local) → stands_for o l ≡ true → told_by (whats.Local l) ≡ declined l ∷ []
-told_declined o (locals.Full place) e = refl
-told_declined o (locals.Worn sequence) e = refl
-told_declined (line_ops.Of o) l e = cc
+told_declined (line_ops.Of o) l e = told_declined_op o l e
 told_declined (line_ops.Begin a b) l e = cc
 told_declined line_ops.Finish l e = cc
 
@@ -24,7 +32,11 @@ same_rest : (w : what.What) (xs ys : List Told) → told_by w ++ xs ≡ told_by 
 same_rest (whats.Did place path o r) xs ys e = cc
 same_rest (whats.Local (locals.Full place)) xs ys e = cc
 same_rest (whats.Local (locals.Worn sequence)) xs ys e = cc
-same_rest (whats.Local l) xs ys e = e
+same_rest (whats.Local locals.Depth) xs ys e = e
+same_rest (whats.Local locals.Budget) xs ys e = e
+same_rest (whats.Local locals.Kind) xs ys e = e
+same_rest (whats.Local (locals.Unbound a)) xs ys e = e
+same_rest (whats.Local locals.NotCallable) xs ys e = e
 
 -- what two executions that are told the same agree on
 abbrev pub Alike : List what.What → List what.What → ThreadState → ThreadState → Type 0
@@ -39,6 +51,7 @@ module _ (t u : ThreadState) (on off : ThreadState → List what.What → Type 0
   both : (next : Transition) (first second : List what.What) → Fits on next first → Fits off next second → all_told first ≡ all_told second → Alike first second t u
   both ended first second f g e = absurd f
   both (silent s) first second f g e = same s first second f g e
+  both (checkpoints s) first second f g e = same s first second f g e
   both (says l s) [] second f g e = absurd f
   both (says l s) (w ∷ first) [] f g e = absurd g
   both (says l s) (w ∷ first) (v ∷ second) f g e =
@@ -49,17 +62,10 @@ module _ (t u : ThreadState) (on off : ThreadState → List what.What → Type 0
   both (asks o k s) (whats.Did p a o1 r ∷ first) (whats.Did q b o2 r2 ∷ second) f g e =
       let places : p ≡ q = cc in
       let ways : a ≡ b = cc in
-      let replies : r ≡ r2 = cc in
+      let replied : r ≡ r2 = cc in
       let heads : whats.Did p a o1 r ≡ whats.Did q b o2 r2 = cc in
-      took heads (reply_taken o r) (reply_taken o r2) (ap (reply_taken o) replies) f.1 g.1
-    where
-      took : whats.Did p a o1 r ≡ whats.Did q b o2 r2 → (x y : Option reply.Reply) → x ≡ y → TakesReply (λ z. on z first) k s x → TakesReply (λ z. off z second) k s y → Alike (whats.Did p a o1 r ∷ first) (whats.Did q b o2 r2 ∷ second) t u
-      took heads None y eq l m = absurd l
-      took heads (Some x) None eq l m = absurd m
-      took heads (Some x) (Some y) eq l m =
-          let xy : x ≡ y = cc in
-          let moved : off (taken k x s) second = subst (λ (z : reply.Reply). off (taken k z s) second) (sym xy) m in
-          subst (λ (z : what.What). all_told (whats.Did p a o1 r ∷ first) ≡ all_told (z ∷ second) → Alike (whats.Did p a o1 r ∷ first) (z ∷ second) t u) heads (with_head (whats.Did p a o1 r) (taken k x s) first second l moved) e
+      let moved : off (taken k r s) second = subst (λ (z : line_reply.LineReply). off (taken k z s) second) (sym replied) g.2 in
+      subst (λ (z : what.What). all_told (whats.Did p a o1 r ∷ first) ≡ all_told (z ∷ second) → Alike (whats.Did p a o1 r ∷ first) (z ∷ second) t u) heads (with_head (whats.Did p a o1 r) (taken k r s) first second f.2 moved) e
   both (asks o k s) (whats.Did p a o1 r ∷ first) (whats.Local l ∷ second) f g e =
       absurd (subst (λ (x : List Told). replied p a r ∷ all_told first ≡ x ++ all_told second → ⊥) (sym (told_declined o l g.0)) (λ bad. cc) e)
   both (asks o k s) (whats.Local l ∷ first) (whats.Did q b o2 r2 ∷ second) f g e =

@@ -1,26 +1,22 @@
 -- Steps one after another.
-use Rattle.std.proofs.Common.{◌≡◌, refl, sym, ap, subst, ℕ, zero, suc, ◌+◌, ◌*◌, ◌<◌, ◌≤◌, arith, List, [], ◌∷◌, ◌++◌, length, Option, Some, None}
-use Rattle.at_value.specs.declared.reply.Reply as reply
+use Rattle.std.proofs.Common.{◌≡◌, refl, sym, ap, subst, ℕ, zero, suc, ◌+◌, ◌*◌, ◌<◌, ◌≤◌, arith, List, [], ◌∷◌, ◌++◌, length}
 use Rattle.at_line.specs.declared.line.What as what
 use Rattle.at_line.specs.declared.line.What.TheVariants as whats
 use Rattle.at_script.specs.declared.stmt.Stmt as stmt
 use Rattle.at_script.specs.Parts.{ScriptParts}
-use Rattle.at_thread.specs.Execution.{Frame, ThreadState, Variables, Transition, ended, silent, says, asks, dropped, taken, next_of, start}
-use Rattle.at_thread.specs.Executions.{reply_taken, TakesReply, Fits, Leads, IsExecution, Makes}
+use Rattle.at_thread.specs.Execution.{Frame, ThreadState, Variables, Transition, ended, silent, checkpoints, says, asks, dropped, taken, next_of, start}
+use Rattle.at_thread.specs.Executions.{Fits, Leads, IsExecution, Makes}
 use Rattle.at_thread.proofs.Steps.{size, spare, Few, Onward, AllOnward, next_onward}
 
 -- what goes on may change where the lines are followed by more
 fits_more : (on off : ThreadState → List what.What → Type 0) (next : Transition) (lines more : List what.What) → ((s : ThreadState) (rest : List what.What) → on s rest → off s (rest ++ more)) → Fits on next lines → Fits off next (lines ++ more)
 fits_more on off ended lines more change f = absurd f
 fits_more on off (silent s) lines more change f = change s lines f
+fits_more on off (checkpoints s) lines more change f = change s lines f
 fits_more on off (says l s) [] more change f = absurd f
 fits_more on off (says l s) (w ∷ lines) more change f = (f.0, change s lines f.1)
 fits_more on off (asks o u s) [] more change f = absurd f
-fits_more on off (asks o u s) (whats.Did place path p r ∷ lines) more change f = (f.0, took (reply_taken o r) f.1)
-  where
-    took : (a : Option reply.Reply) → TakesReply (λ t. on t lines) u s a → TakesReply (λ t. off t (lines ++ more)) u s a
-    took None k = absurd k
-    took (Some a) k = change (taken u a s) lines k
+fits_more on off (asks o u s) (whats.Did place path p r ∷ lines) more change f = (f.0, f.1, change (taken u r s) lines f.2)
 fits_more on off (asks o u s) (whats.Local l ∷ lines) more change f = (f.0, change (dropped s) lines f.1)
 
 -- one step more
@@ -35,14 +31,11 @@ fits_onward : (p : ScriptParts) (n count : ℕ) (on : ThreadState → List what.
     → ((s : ThreadState) (k : ℕ) (rest : List what.What) → Onward p n k s → k + length rest ≡ count + length lines → on s rest → G) → AllOnward p n count next → Fits on next lines → G
 fits_onward p n count on G ended lines go h f = absurd f
 fits_onward p n count on G (silent s) lines go h f = go s count lines h refl f
+fits_onward p n count on G (checkpoints s) lines go h f = go s count lines h refl f
 fits_onward p n count on G (says l s) [] go h f = absurd f
 fits_onward p n count on G (says l s) (w ∷ lines) go h f = go s (suc count) lines h (omega arith) f.1
 fits_onward p n count on G (asks o u s) [] go h f = absurd f
-fits_onward p n count on G (asks o u s) (whats.Did place path q r ∷ lines) go h f = took (reply_taken o r) f.1
-  where
-    took : (a : Option reply.Reply) → TakesReply (λ t. on t lines) u s a → G
-    took None k = absurd k
-    took (Some a) k = go (taken u a s) (suc count) lines (h.0 a) (omega arith) k
+fits_onward p n count on G (asks o u s) (whats.Did place path q r ∷ lines) go h f = go (taken u r s) (suc count) lines (h.0 r) (omega arith) f.2
 fits_onward p n count on G (asks o u s) (whats.Local l ∷ lines) go h f = go (dropped s) (suc count) lines h.1 (omega arith) f.1
 
 -- after some steps there are few lines

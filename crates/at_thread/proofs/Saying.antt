@@ -11,12 +11,13 @@ use Rattle.at_script.specs.declared.stmt.Stmt.TheVariants as stmts
 use Rattle.at_script.specs.declared.stmt.Operand as operand
 use Rattle.at_script.specs.declared.stmt.Operand.TheVariants as operands
 use Rattle.at_script.specs.declared.stmt.Target as target
-use Rattle.at_script.specs.declared.stmt.Target.TheVariants as targets
-use Rattle.at_thread.specs.declared.next.OnReturn as given
-use Rattle.at_thread.specs.declared.next.Request.{Request}
-use Rattle.at_thread.specs.declared.next.Call.{Call}
 use Rattle.at_script.specs.Parts.{ScriptParts}
-use Rattle.at_thread.specs.Execution.{Frame, ThreadState, Transition, silent, says, and_then, bound_to, operand_value, given_value, target_value, as_object, target_object, read_of, target_read, other_object, asked_by, returned, let_next, return_next, finish_next, ask_next, statement_next, begun_in, frame_next, frames_next, called, call_next, pending_next, next_of}
+use Rattle.at_script.specs.Operands.{operand_of}
+use Rattle.at_thread.specs.declared.next.OnReturn as on_return
+use Rattle.at_thread.specs.declared.next.Call.{Call}
+use Rattle.at_thread.specs.declared.next.Action as action
+use Rattle.at_thread.specs.declared.next.Action.TheVariants as actions
+use Rattle.at_thread.specs.Execution.{Frame, ThreadState, Transition, ended, silent, checkpoints, says, asks, and_then, bound_to, operand_value, given_value, target_value, as_object, target_object, read_of, target_read, other_object, action_of, returned, return_next, finish_next, action_next, statement_next, begun_in, frame_next, frames_next, most_calls, called, call_next, pending_next, next_of}
 
 -- a local line that a statement brings about
 abbrev pub IsOwn : local.Local → Type 0
@@ -27,8 +28,11 @@ ErrsOwn (Ok a) = Unit {0}
 ErrsOwn (Err l) = IsOwn l
 
 abbrev pub SaysOwn : Transition → Type 0
+SaysOwn ended = Unit {0}
+SaysOwn (silent s) = Unit {0}
+SaysOwn (checkpoints s) = Unit {0}
 SaysOwn (says l s) = IsOwn l
-SaysOwn next = Unit {0}
+SaysOwn (asks o u s) = Unit {0}
 
 then_own : {A B : Type 0} (r : Result A local.Local) (f : A → Result B local.Local) → ErrsOwn r → ((a : A) → ErrsOwn (f a)) → ErrsOwn (and_then r f)
 then_own (Ok a) f h g = g a
@@ -51,12 +55,7 @@ given_own s f None = tt
 given_own s f (Some v) = operand_own s f v
 
 target_own : (s : ThreadState) (f : Frame) (r : target.Target) → ErrsOwn (target_value s f r)
-target_own s f (targets.Class c) = tt
-target_own s f (targets.Var a) = bound_own a (slice_index_or s.variables a None)
-target_own s f targets.SelfArg = tt
-target_own s f targets.Arg = tt
-target_own s f targets.Other = tt
-target_own s f targets.It = tt
+target_own s f r = operand_own s f (operand_of r)
 
 as_object_own : (v : value.Value) → ErrsOwn (as_object v)
 as_object_own (values.Obj o) = tt
@@ -77,27 +76,46 @@ other_own : (s : ThreadState) (f : Frame) (o : ℕ) (r : Option target.Target) �
 other_own s f o None = tt
 other_own s f o (Some r) = then_own (target_object s f r) _ (object_own s f r) (λ p. tt)
 
-asked_own : (s : ThreadState) (f : Frame) (t : stmt.Stmt) → ErrsOwn (asked_by s f t)
-asked_own s f (stmts.Put c x v) = then_own (operand_value s f v) _ (operand_own s f v) (λ w. tt)
-asked_own s f (stmts.New a c v) = then_own (given_value s f v) _ (given_own s f v) (λ w. tt)
-asked_own s f (stmts.Set r x v) = then_own (target_object s f r) _ (object_own s f r) (λ o. then_own (operand_value s f v) _ (operand_own s f v) (λ w. tt))
-asked_own s f (stmts.Del r x) = then_own (target_object s f r) _ (object_own s f r) (λ o. tt)
-asked_own s f (stmts.Get r x) = then_own (target_read s f r x) _ (target_read_own s f r x) (λ o. tt)
-asked_own s f (stmts.Turn r c) = then_own (target_object s f r) _ (object_own s f r) (λ o. tt)
-asked_own s f (stmts.Share r q) = then_own (target_object s f r) _ (object_own s f r) (λ o. then_own (target_object s f q) _ (object_own s f q) (λ p. tt))
-asked_own s f (stmts.Super c r x) = then_own (target_object s f r) _ (object_own s f r) (λ o. tt)
-asked_own s f (stmts.Special r x) = then_own (target_object s f r) _ (object_own s f r) (λ o. tt)
-asked_own s f (stmts.ClassOf r) = then_own (target_object s f r) _ (object_own s f r) (λ o. tt)
-asked_own s f (stmts.Call r x v) = then_own (target_read s f r x) _ (target_read_own s f r x) (λ o. then_own (given_value s f v) _ (given_own s f v) (λ w. tt))
-asked_own s f (stmts.CallSuper c r x v) = then_own (target_object s f r) _ (object_own s f r) (λ o. then_own (given_value s f v) _ (given_own s f v) (λ w. tt))
-asked_own s f (stmts.Begin r q) = then_own (target_object s f r) _ (object_own s f r) (λ o. then_own (other_object s f o q) _ (other_own s f o q) (λ p. tt))
-asked_own s f t = tt
+-- what an action says by its own operand
+abbrev pub ActionOwn : action.Action → Type 0
+ActionOwn (actions.Bind a v) = Unit {0}
+ActionOwn (actions.Return v) = ErrsOwn v
+ActionOwn actions.Finish = Unit {0}
+ActionOwn actions.Checkpoint = Unit {0}
+ActionOwn (actions.Ask a) = Unit {0}
 
-let_says : (s : ThreadState) (a : ℕ) (r : Result value.Value local.Local) → ErrsOwn r → SaysOwn (let_next s a r)
-let_says s a (Ok v) h = tt
-let_says s a (Err l) h = h
+abbrev pub AllOwn : Result action.Action local.Local → Type 0
+AllOwn (Ok a) = ActionOwn a
+AllOwn (Err l) = IsOwn l
 
-return_says : (g : given.OnReturn) (s : ThreadState) (r : Result value.Value local.Local) → ErrsOwn r → SaysOwn (return_next g s r)
+then_all : {A : Type 0} (r : Result A local.Local) (f : A → Result action.Action local.Local) → ErrsOwn r → ((a : A) → AllOwn (f a)) → AllOwn (and_then r f)
+then_all (Ok a) f h g = g a
+then_all (Err l) f h g = h
+
+action_own : (p : ScriptParts) (s : ThreadState) (f : Frame) (t : stmt.Stmt) → AllOwn (action_of p s f t)
+action_own p s f (stmts.Class c bases) = tt
+action_own p s f (stmts.Bases c bases) = tt
+action_own p s f (stmts.Cut c x) = tt
+action_own p s f (stmts.Mro c) = tt
+action_own p s f (stmts.Put c x v) = then_all (operand_value s f v) _ (operand_own s f v) (λ w. tt)
+action_own p s f (stmts.New a c v) = then_all (given_value s f v) _ (given_own s f v) (λ w. tt)
+action_own p s f (stmts.Set r x v) = then_all (target_object s f r) _ (object_own s f r) (λ o. then_all (operand_value s f v) _ (operand_own s f v) (λ w. tt))
+action_own p s f (stmts.Del r x) = then_all (target_object s f r) _ (object_own s f r) (λ o. tt)
+action_own p s f (stmts.Get r x) = then_all (target_read s f r x) _ (target_read_own s f r x) (λ o. tt)
+action_own p s f (stmts.Turn r c) = then_all (target_object s f r) _ (object_own s f r) (λ o. tt)
+action_own p s f (stmts.Share r q) = then_all (target_object s f r) _ (object_own s f r) (λ o. then_all (target_object s f q) _ (object_own s f q) (λ other. tt))
+action_own p s f (stmts.Super c r x) = then_all (target_object s f r) _ (object_own s f r) (λ o. tt)
+action_own p s f (stmts.Special r x) = then_all (target_object s f r) _ (object_own s f r) (λ o. tt)
+action_own p s f (stmts.ClassOf r) = then_all (target_object s f r) _ (object_own s f r) (λ o. tt)
+action_own p s f (stmts.Call r x v) = then_all (target_read s f r x) _ (target_read_own s f r x) (λ o. then_all (given_value s f v) _ (given_own s f v) (λ w. tt))
+action_own p s f (stmts.CallSuper c r x v) = then_all (target_object s f r) _ (object_own s f r) (λ o. then_all (given_value s f v) _ (given_own s f v) (λ w. tt))
+action_own p s f (stmts.Begin r q) = then_all (target_object s f r) _ (object_own s f r) (λ o. then_all (other_object s f o q) _ (other_own s f o q) (λ other. tt))
+action_own p s f (stmts.Let a v) = then_all (operand_value s f v) _ (operand_own s f v) (λ w. tt)
+action_own p s f (stmts.Return v) = operand_own s f v
+action_own p s f stmts.Finish = tt
+action_own p s f stmts.Checkpoint = tt
+
+return_says : (g : on_return.OnReturn) (s : ThreadState) (r : Result value.Value local.Local) → ErrsOwn r → SaysOwn (return_next g s r)
 return_says g s (Ok v) h = tt
 return_says g s (Err l) h = h
 
@@ -105,24 +123,24 @@ finish_says : (s : ThreadState) (b : Bool) → SaysOwn (finish_next s b)
 finish_says s true = tt
 finish_says s false = tt
 
-ask_says : (s : ThreadState) (r : Result Request local.Local) → ErrsOwn r → SaysOwn (ask_next s r)
-ask_says s (Ok a) h = tt
-ask_says s (Err l) h = h
+action_says : (s : ThreadState) (f : Frame) (below : List Frame) (a : Result action.Action local.Local) → AllOwn a → SaysOwn (action_next s f below a)
+action_says s f below (Ok (actions.Bind a v)) h = tt
+action_says s f below (Ok (actions.Return v)) h = return_says f.on_return (record s { frames = below }) v h
+action_says s f below (Ok actions.Finish) h = finish_says s f.opened
+action_says s f below (Ok actions.Checkpoint) h = tt
+action_says s f below (Ok (actions.Ask a)) h = tt
+action_says s f below (Err l) h = h
 
-statement_says : (s : ThreadState) (f : Frame) (below : List Frame) (t : stmt.Stmt) → SaysOwn (statement_next s f below t)
-statement_says s f below (stmts.Let a v) = let_says s a (operand_value s f v) (operand_own s f v)
-statement_says s f below (stmts.Return v) = return_says f.gives (record s { frames = below }) (operand_value s f v) (operand_own s f v)
-statement_says s f below stmts.Finish = finish_says s f.opened
-statement_says s f below stmts.Checkpoint = tt
-statement_says s f below t = ask_says s (asked_by s f t) (asked_own s f t)
+statement_says : (p : ScriptParts) (s : ThreadState) (f : Frame) (below : List Frame) (t : stmt.Stmt) → SaysOwn (statement_next p s f below t)
+statement_says p s f below t = action_says s f below (action_of p s f t) (action_own p s f t)
 
 frame_says : (p : ScriptParts) (s : ThreadState) (f : Frame) (below : List Frame) (rest : List stmt.Stmt) → SaysOwn (frame_next p s f below rest)
 frame_says p s f below [] = tt
 frame_says p s f below (t ∷ rest) = tests (nat_le p.budget s.begun)
   where
-    tests : (b : Bool) → SaysOwn (if b then says locals.Budget (record s { frames = [] }) else statement_next (begun_in s f below rest) (record f { rest = rest }) below t)
+    tests : (b : Bool) → SaysOwn (if b then says locals.Budget (record s { frames = [] }) else statement_next p (begun_in s f below rest) (record f { rest = rest }) below t)
     tests true = tt
-    tests false = statement_says (begun_in s f below rest) (record f { rest = rest }) below t
+    tests false = statement_says p (begun_in s f below rest) (record f { rest = rest }) below t
 
 frames_says : (p : ScriptParts) (s : ThreadState) (fs : List Frame) → SaysOwn (frames_next p s fs)
 frames_says p s [] = tt
@@ -130,9 +148,9 @@ frames_says p s (f ∷ below) = frame_says p s f below f.rest
 
 call_says : (p : ScriptParts) (s : ThreadState) (c : Call) (callee : Option ℕ) → SaysOwn (call_next p s c callee)
 call_says p s c None = tt
-call_says p s c (Some f) = tests (nat_le (length s.frames) 16)
+call_says p s c (Some f) = tests (nat_le (length s.frames) most_calls)
   where
-    tests : (b : Bool) → SaysOwn (if b then silent (record s { frames = called p c f ∷ s.frames }) else says locals.Depth (returned c.gives values.Nothing s))
+    tests : (b : Bool) → SaysOwn (if b then silent (record s { frames = called p c f ∷ s.frames }) else says locals.Depth (returned c.on_return values.Nothing s))
     tests true = tt
     tests false = tt
 

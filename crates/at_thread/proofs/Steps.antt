@@ -3,20 +3,21 @@ use Rattle.std.proofs.Common.{◌≡◌, ◌∙◌, sym, ℕ, suc, ◌+◌, ◌-
 use Rattle.std.proofs.lemmas.Bool.{leb-false}
 use Rattle.at_value.specs.declared.value.Value as value
 use Rattle.at_value.specs.declared.value.Value.TheVariants as values
-use Rattle.at_value.specs.declared.reply.Reply as reply
 use Rattle.at_value.specs.declared.reply.Reply.TheVariants as replies
+use Rattle.at_line.specs.declared.line.LineReply as line_reply
+use Rattle.at_line.specs.declared.line.LineReply.TheVariants as line_replies
 use Rattle.at_line.specs.declared.line.Local as local
 use Rattle.at_line.specs.declared.line.Local.TheVariants as locals
 use Rattle.at_script.specs.declared.stmt.Stmt as stmt
-use Rattle.at_script.specs.declared.stmt.Stmt.TheVariants as stmts
-use Rattle.at_thread.specs.declared.next.ReplyUse as used
+use Rattle.at_thread.specs.declared.next.ReplyUse as reply_use
 use Rattle.at_thread.specs.declared.next.ReplyUse.TheVariants as uses
-use Rattle.at_thread.specs.declared.next.OnReturn as given
-use Rattle.at_thread.specs.declared.next.OnReturn.TheVariants as gives
-use Rattle.at_thread.specs.declared.next.Request.{Request}
+use Rattle.at_thread.specs.declared.next.OnReturn as on_return
+use Rattle.at_thread.specs.declared.next.OnReturn.TheVariants as on_returns
+use Rattle.at_thread.specs.declared.next.Action as action
+use Rattle.at_thread.specs.declared.next.Action.TheVariants as actions
 use Rattle.at_thread.specs.declared.next.Call.{Call}
 use Rattle.at_script.specs.Parts.{ScriptParts}
-use Rattle.at_thread.specs.Execution.{Frame, ThreadState, Transition, ended, silent, says, asks, operand_value, asked_by, returned, taken, dropped, with_opened, let_next, return_next, finish_next, ask_next, statement_next, begun_in, frame_next, frames_next, called, call_next, pending_next, next_of}
+use Rattle.at_thread.specs.Execution.{Frame, ThreadState, Transition, ended, silent, checkpoints, says, asks, action_of, returned, taken, dropped, with_opened, return_next, finish_next, action_next, statement_next, begun_in, frame_next, frames_next, most_calls, called, call_next, pending_next, next_of}
 
 -- a call that is to begin takes at most two steps more, and at most one line
 abbrev pub pending : Option Call → ℕ
@@ -46,8 +47,9 @@ pub record Onward (p : ScriptParts) (n lines : ℕ) (t : ThreadState) : Type 0 w
 abbrev pub AllOnward : ScriptParts → ℕ → ℕ → Transition → Type 0
 AllOnward p n lines ended = Unit {0}
 AllOnward p n lines (silent t) = Onward p n lines t
+AllOnward p n lines (checkpoints t) = Onward p n lines t
 AllOnward p n lines (says l t) = Onward p n (suc lines) t
-AllOnward p n lines (asks o u t) = ((r : reply.Reply) → Onward p n (suc lines) (taken u r t)) × Onward p n (suc lines) (dropped t)
+AllOnward p n lines (asks o u t) = ((r : line_reply.LineReply) → Onward p n (suc lines) (taken u r t)) × Onward p n (suc lines) (dropped t)
 
 -- a state that has room for a reply, or for a line
 pub record Roomy (p : ScriptParts) (n lines : ℕ) (f : Frame) (below : List Frame) (t : ThreadState) : Type 0 where
@@ -57,10 +59,10 @@ pub record Roomy (p : ScriptParts) (n lines : ℕ) (f : Frame) (below : List Fra
   pub few : suc (suc lines) ≤ 2 * t.begun
   pub within : t.begun ≤ p.budget
 
-returned_onward : (p : ScriptParts) (n lines : ℕ) (g : given.OnReturn) (v : value.Value) (t : ThreadState) → Onward p n lines t → Onward p n lines (returned g v t)
-returned_onward p n lines gives.Result v t h = record { smaller = h.smaller; few = record { few = h.few.few; within = h.few.within } }
-returned_onward p n lines gives.Nothing v t h = record { smaller = h.smaller; few = record { few = h.few.few; within = h.few.within } }
-returned_onward p n lines (gives.Object o) v t h = record { smaller = h.smaller; few = record { few = h.few.few; within = h.few.within } }
+returned_onward : (p : ScriptParts) (n lines : ℕ) (g : on_return.OnReturn) (v : value.Value) (t : ThreadState) → Onward p n lines t → Onward p n lines (returned g v t)
+returned_onward p n lines on_returns.Result v t h = record { smaller = h.smaller; few = record { few = h.few.few; within = h.few.within } }
+returned_onward p n lines on_returns.Nothing v t h = record { smaller = h.smaller; few = record { few = h.few.few; within = h.few.within } }
+returned_onward p n lines (on_returns.Object o) v t h = record { smaller = h.smaller; few = record { few = h.few.few; within = h.few.within } }
 
 -- a state with room goes on, with one line more or none, whether a call is to begin or not
 roomy_onward : (p : ScriptParts) (n lines now_lines : ℕ) (f g : Frame) (below : List Frame) (t u : ThreadState) → now_lines ≤ suc lines → Roomy p n lines f below t → u.frames ≡ g ∷ below → u.begun ≡ t.begun → Onward p n now_lines u
@@ -78,23 +80,22 @@ roomy_onward p n lines now_lines f g below t u most h frames begun =
     at_most None = omega arith
     at_most (Some c) = omega arith
 
-taken_onward : (p : ScriptParts) (n lines : ℕ) (f : Frame) (below : List Frame) (t : ThreadState) → Roomy p n lines f below t → (u : used.ReplyUse) (r : reply.Reply) → Onward p n (suc lines) (taken u r t)
-taken_onward p n lines f below t h uses.Read (replies.Hook k c r o v) = roomy_onward p n lines (suc lines) f f below t _ (omega arith) h h.above refl
-taken_onward p n lines f below t h uses.Learn (replies.Value v) = roomy_onward p n lines (suc lines) f f below t _ (omega arith) h h.above refl
-taken_onward p n lines f below t h uses.Write (replies.Hook k c r o v) = roomy_onward p n lines (suc lines) f f below t _ (omega arith) h h.above refl
-taken_onward p n lines f below t h (uses.Call w) (replies.Value v) = roomy_onward p n lines (suc lines) f f below t _ (omega arith) h h.above refl
-taken_onward p n lines f below t h (uses.Call w) (replies.Method g r) = roomy_onward p n lines (suc lines) f f below t _ (omega arith) h h.above refl
-taken_onward p n lines f below t h (uses.Call w) (replies.Hook k c r o v) = roomy_onward p n lines (suc lines) f f below t _ (omega arith) h h.above refl
-taken_onward p n lines f below t h (uses.Bind a w) (replies.Made o None) = roomy_onward p n lines (suc lines) f f below t _ (omega arith) h h.above refl
-taken_onward p n lines f below t h (uses.Bind a w) (replies.Made o (Some init)) = roomy_onward p n lines (suc lines) f f below t _ (omega arith) h h.above refl
-taken_onward p n lines f below t h uses.Open replies.Done = roomy_onward p n lines (suc lines) f (record f { opened = true }) below t _ (omega arith) h (ap (with_opened true) h.above) refl
+taken_onward : (p : ScriptParts) (n lines : ℕ) (f : Frame) (below : List Frame) (t : ThreadState) → Roomy p n lines f below t → (u : reply_use.ReplyUse) (r : line_reply.LineReply) → Onward p n (suc lines) (taken u r t)
+taken_onward p n lines f below t h uses.Read (line_replies.Of (replies.Hook k c r o v)) = roomy_onward p n lines (suc lines) f f below t _ (omega arith) h h.above refl
+taken_onward p n lines f below t h uses.Learn (line_replies.Of (replies.Value v)) = roomy_onward p n lines (suc lines) f f below t _ (omega arith) h h.above refl
+taken_onward p n lines f below t h uses.Write (line_replies.Of (replies.Hook k c r o v)) = roomy_onward p n lines (suc lines) f f below t _ (omega arith) h h.above refl
+taken_onward p n lines f below t h (uses.Call w) (line_replies.Of (replies.Value v)) = roomy_onward p n lines (suc lines) f f below t _ (omega arith) h h.above refl
+taken_onward p n lines f below t h (uses.Call w) (line_replies.Of (replies.Method g r)) = roomy_onward p n lines (suc lines) f f below t _ (omega arith) h h.above refl
+taken_onward p n lines f below t h (uses.Call w) (line_replies.Of (replies.Hook k c r o v)) = roomy_onward p n lines (suc lines) f f below t _ (omega arith) h h.above refl
+taken_onward p n lines f below t h (uses.Bind a w) (line_replies.Of (replies.Made o None)) = roomy_onward p n lines (suc lines) f f below t _ (omega arith) h h.above refl
+taken_onward p n lines f below t h (uses.Bind a w) (line_replies.Of (replies.Made o (Some init))) = roomy_onward p n lines (suc lines) f f below t _ (omega arith) h h.above refl
+taken_onward p n lines f below t h uses.Open (line_replies.Of replies.Done) = roomy_onward p n lines (suc lines) f (record f { opened = true }) below t _ (omega arith) h (ap (with_opened true) h.above) refl
+taken_onward p n lines f below t h uses.Close line_replies.Kept = roomy_onward p n lines (suc lines) f f below t _ (omega arith) h h.above refl
+taken_onward p n lines f below t h uses.Close (line_replies.Suspended k) = roomy_onward p n lines (suc lines) f f below t _ (omega arith) h h.above refl
+taken_onward p n lines f below t h uses.Close (line_replies.Of r) = roomy_onward p n lines (suc lines) f f below t _ (omega arith) h h.above refl
 taken_onward p n lines f below t h u r = roomy_onward p n lines (suc lines) f f below t _ (omega arith) h h.above refl
 
 -- What comes of a statement, in a state with room, is onward
-
-let_onward : (p : ScriptParts) (n lines : ℕ) (f : Frame) (below : List Frame) (t : ThreadState) (a : ℕ) (r : Result value.Value local.Local) → Roomy p n lines f below t → AllOnward p n lines (let_next t a r)
-let_onward p n lines f below t a (Ok v) h = roomy_onward p n lines lines f f below t _ (omega arith) h h.above refl
-let_onward p n lines f below t a (Err l) h = roomy_onward p n lines (suc lines) f f below t _ (omega arith) h h.above refl
 
 -- the frame has ended
 ended_onward : (p : ScriptParts) (n lines now_lines : ℕ) (f : Frame) (below : List Frame) (t : ThreadState) → now_lines ≤ suc lines → Roomy p n lines f below t → Onward p n now_lines (record t { frames = below })
@@ -106,12 +107,12 @@ ended_onward p n lines now_lines f below t most h =
     let now : pending t.call ≡ 0 = ap pending h.free in
     record { smaller = omega arith; few = record { few = omega arith; within = omega arith } }
 
-return_onward : (p : ScriptParts) (n lines : ℕ) (f : Frame) (below : List Frame) (t : ThreadState) (g : given.OnReturn) (r : Result value.Value local.Local) → Roomy p n lines f below t → AllOnward p n lines (return_next g (record t { frames = below }) r)
+return_onward : (p : ScriptParts) (n lines : ℕ) (f : Frame) (below : List Frame) (t : ThreadState) (g : on_return.OnReturn) (r : Result value.Value local.Local) → Roomy p n lines f below t → AllOnward p n lines (return_next g (record t { frames = below }) r)
 return_onward p n lines f below t g (Ok v) h = returned_onward p n lines g v (record t { frames = below }) (ended_onward p n lines lines f below t (omega arith) h)
 return_onward p n lines f below t g (Err l) h = returned_onward p n (suc lines) g values.Nothing (record t { frames = below }) (ended_onward p n lines (suc lines) f below t (omega arith) h)
 
 -- a state with room for a reply
-asked_onward : (p : ScriptParts) (n lines : ℕ) (f : Frame) (below : List Frame) (t : ThreadState) → Roomy p n lines f below t → ((r : reply.Reply) (u : used.ReplyUse) → Onward p n (suc lines) (taken u r t)) × Onward p n (suc lines) (dropped t)
+asked_onward : (p : ScriptParts) (n lines : ℕ) (f : Frame) (below : List Frame) (t : ThreadState) → Roomy p n lines f below t → ((r : line_reply.LineReply) (u : reply_use.ReplyUse) → Onward p n (suc lines) (taken u r t)) × Onward p n (suc lines) (dropped t)
 asked_onward p n lines f below t h = (λ r u. taken_onward p n lines f below t h u r, roomy_onward p n lines (suc lines) f f below t _ (omega arith) h h.above refl)
 
 finish_onward : (p : ScriptParts) (n lines : ℕ) (f : Frame) (below : List Frame) (t : ThreadState) (b : Bool) → Roomy p n lines f below t → AllOnward p n lines (finish_next t b)
@@ -126,16 +127,16 @@ finish_onward p n lines f below t true h =
     (λ r. taken_onward p n lines _ below _ closed uses.Close r, (asked_onward p n lines _ below _ closed).1)
 finish_onward p n lines f below t false h = roomy_onward p n lines lines f f below t _ (omega arith) h h.above refl
 
-ask_onward : (p : ScriptParts) (n lines : ℕ) (f : Frame) (below : List Frame) (t : ThreadState) (r : Result Request local.Local) → Roomy p n lines f below t → AllOnward p n lines (ask_next t r)
-ask_onward p n lines f below t (Ok a) h = (λ r. taken_onward p n lines f below t h a.used r, (asked_onward p n lines f below t h).1)
-ask_onward p n lines f below t (Err l) h = roomy_onward p n lines (suc lines) f f below t _ (omega arith) h h.above refl
+action_onward : (p : ScriptParts) (n lines : ℕ) (f : Frame) (below : List Frame) (t : ThreadState) (a : Result action.Action local.Local) → Roomy p n lines f below t → AllOnward p n lines (action_next t f below a)
+action_onward p n lines f below t (Ok (actions.Bind a v)) h = roomy_onward p n lines lines f f below t _ (omega arith) h h.above refl
+action_onward p n lines f below t (Ok (actions.Return v)) h = return_onward p n lines f below t f.on_return v h
+action_onward p n lines f below t (Ok actions.Finish) h = finish_onward p n lines f below t f.opened h
+action_onward p n lines f below t (Ok actions.Checkpoint) h = roomy_onward p n lines lines f f below t t (omega arith) h h.above refl
+action_onward p n lines f below t (Ok (actions.Ask a)) h = (λ r. taken_onward p n lines f below t h a.reply_use r, (asked_onward p n lines f below t h).1)
+action_onward p n lines f below t (Err l) h = roomy_onward p n lines (suc lines) f f below t _ (omega arith) h h.above refl
 
-statement_onward : (p : ScriptParts) (n lines : ℕ) (f : Frame) (below : List Frame) (t : ThreadState) (x : stmt.Stmt) → Roomy p n lines f below t → AllOnward p n lines (statement_next t f below x)
-statement_onward p n lines f below t (stmts.Let a v) h = let_onward p n lines f below t a (operand_value t f v) h
-statement_onward p n lines f below t (stmts.Return v) h = return_onward p n lines f below t f.gives (operand_value t f v) h
-statement_onward p n lines f below t stmts.Finish h = finish_onward p n lines f below t f.opened h
-statement_onward p n lines f below t stmts.Checkpoint h = roomy_onward p n lines lines f f below t t (omega arith) h h.above refl
-statement_onward p n lines f below t x h = ask_onward p n lines f below t (asked_by t f x) h
+statement_onward : (p : ScriptParts) (n lines : ℕ) (f : Frame) (below : List Frame) (t : ThreadState) (x : stmt.Stmt) → Roomy p n lines f below t → AllOnward p n lines (statement_next p t f below x)
+statement_onward p n lines f below t x h = action_onward p n lines f below t (action_of p t f x) h
 
 frame_onward : (p : ScriptParts) (lines : ℕ) (f : Frame) (below : List Frame) (s : ThreadState) (rest : List stmt.Stmt) → s.frames ≡ f ∷ below → s.call ≡ None → Few p lines s → AllOnward p (size p s) lines (frame_next p s f below rest)
 frame_onward p lines f below s [] above free h =
@@ -143,10 +144,10 @@ frame_onward p lines f below s [] above free h =
     let none_spare : spare s.frames ≡ 0 = ap spare above in
     let few = h.few in
     let within = h.within in
-    returned_onward p (size p s) lines f.gives values.Nothing (record s { frames = below }) (record { smaller = omega arith; few = record { few = omega arith; within = within } })
+    returned_onward p (size p s) lines f.on_return values.Nothing (record s { frames = below }) (record { smaller = omega arith; few = record { few = omega arith; within = within } })
 frame_onward p lines f below s (x ∷ rest) above free h = tests (nat_le p.budget s.begun) refl
   where
-    tests : (b : Bool) → nat_le p.budget s.begun ≡ b → AllOnward p (size p s) lines (if b then says locals.Budget (record s { frames = [] }) else statement_next (begun_in s f below rest) (record f { rest = rest }) below x)
+    tests : (b : Bool) → nat_le p.budget s.begun ≡ b → AllOnward p (size p s) lines (if b then says locals.Budget (record s { frames = [] }) else statement_next p (begun_in s f below rest) (record f { rest = rest }) below x)
     tests true e =
         let same : length s.frames ≡ suc (length below) = ap length above in
         let none_spare : spare s.frames ≡ 0 = ap spare above in
@@ -169,14 +170,14 @@ call_onward : (p : ScriptParts) (lines : ℕ) (s : ThreadState) (c : Call) (call
 call_onward p lines s c None e h =
     let now : pending s.call ≡ 1 = ap pending e in
     let few = h.few in
-    returned_onward p (size p s) (suc lines) c.gives values.Nothing (record s { call = None }) (record { smaller = omega arith; few = record { few = omega arith; within = h.within } })
-call_onward p lines s c (Some f) e h = tests (nat_le (length s.frames) 16)
+    returned_onward p (size p s) (suc lines) c.on_return values.Nothing (record s { call = None }) (record { smaller = omega arith; few = record { few = omega arith; within = h.within } })
+call_onward p lines s c (Some f) e h = tests (nat_le (length s.frames) most_calls)
   where
     spare_most : (fs : List Frame) → spare fs ≤ 1
     spare_most [] = omega arith
     spare_most (f ∷ fs) = omega arith
 
-    tests : (b : Bool) → AllOnward p (size p s) lines (if b then silent (record s { call = None; frames = called p c f ∷ s.frames }) else says locals.Depth (returned c.gives values.Nothing (record s { call = None })))
+    tests : (b : Bool) → AllOnward p (size p s) lines (if b then silent (record s { call = None; frames = called p c f ∷ s.frames }) else says locals.Depth (returned c.on_return values.Nothing (record s { call = None })))
     tests true =
         let now : pending s.call ≡ 1 = ap pending e in
         let few = h.few in
@@ -185,7 +186,7 @@ call_onward p lines s c (Some f) e h = tests (nat_le (length s.frames) 16)
     tests false =
         let now : pending s.call ≡ 1 = ap pending e in
         let few = h.few in
-        returned_onward p (size p s) (suc lines) c.gives values.Nothing (record s { call = None }) (record { smaller = omega arith; few = record { few = omega arith; within = h.within } })
+        returned_onward p (size p s) (suc lines) c.on_return values.Nothing (record s { call = None }) (record { smaller = omega arith; few = record { few = omega arith; within = h.within } })
 
 pending_onward : (p : ScriptParts) (lines : ℕ) (s : ThreadState) (c : Option Call) → s.call ≡ c → Few p lines s → AllOnward p (size p s) lines (pending_next p s c)
 pending_onward p lines s None e h = frames_onward p lines s s.frames refl e h

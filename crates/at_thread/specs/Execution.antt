@@ -1,30 +1,32 @@
 -- How a thread executes its block: a state of frames, variables and statements begun, and what it demands next. The state
--- demands a line that is no operation, or an operation whose reply it takes from the line, or nothing. It knows the
--- script and no world.
+-- demands a line that is no operation, or an operation whose reply it takes from the line, or a checkpoint, or nothing. It
+-- knows the script and no world.
 use Rattle.std.specs.Prelude.{ℕ, ◌+◌, ◌==◌, nat_le, Bool, true, false, List, [], ◌∷◌, length, Option, Some, None, Result, Ok, Err, if◌then◌else◌, slice_index_or, slice_set}
 use Rattle.at_value.specs.declared.value.Value as value
 use Rattle.at_value.specs.declared.value.Value.TheVariants as values
 use Rattle.at_value.specs.declared.operation.Op as op
 use Rattle.at_value.specs.declared.operation.Op.TheVariants as ops
-use Rattle.at_value.specs.declared.reply.Reply as reply
 use Rattle.at_value.specs.declared.reply.Reply.TheVariants as replies
 use Rattle.at_line.specs.declared.line.Local as local
 use Rattle.at_line.specs.declared.line.Local.TheVariants as locals
 use Rattle.at_line.specs.declared.line.LineOp as line_op
 use Rattle.at_line.specs.declared.line.LineOp.TheVariants as line_ops
+use Rattle.at_line.specs.declared.line.LineReply as line_reply
+use Rattle.at_line.specs.declared.line.LineReply.TheVariants as line_replies
 use Rattle.at_script.specs.declared.stmt.Stmt as stmt
 use Rattle.at_script.specs.declared.stmt.Stmt.TheVariants as stmts
 use Rattle.at_script.specs.declared.stmt.Operand as operand
 use Rattle.at_script.specs.declared.stmt.Operand.TheVariants as operands
 use Rattle.at_script.specs.declared.stmt.Target as target
-use Rattle.at_script.specs.declared.stmt.Target.TheVariants as targets
-use Rattle.at_thread.specs.declared.next.ReplyUse as used
-use Rattle.at_thread.specs.declared.next.ReplyUse.TheVariants as uses
-use Rattle.at_thread.specs.declared.next.OnReturn as given
-use Rattle.at_thread.specs.declared.next.OnReturn.TheVariants as gives
-use Rattle.at_thread.specs.declared.next.Request.{Request}
-use Rattle.at_thread.specs.declared.next.Call.{Call}
 use Rattle.at_script.specs.Parts.{ScriptParts}
+use Rattle.at_script.specs.Operands.{operand_of}
+use Rattle.at_thread.specs.declared.next.ReplyUse as reply_use
+use Rattle.at_thread.specs.declared.next.ReplyUse.TheVariants as uses
+use Rattle.at_thread.specs.declared.next.OnReturn as on_return
+use Rattle.at_thread.specs.declared.next.OnReturn.TheVariants as on_returns
+use Rattle.at_thread.specs.declared.next.Call.{Call}
+use Rattle.at_thread.specs.declared.next.Action as action
+use Rattle.at_thread.specs.declared.next.Action.TheVariants as actions
 
 -- the values of the variables by number, none where a variable isn't bound
 abbrev pub Variables : Type 0
@@ -38,7 +40,7 @@ pub record Frame : Type 0 where
   pub arg : value.Value
   pub rest : List stmt.Stmt
   pub opened : Bool
-  pub gives : given.OnReturn
+  pub on_return : on_return.OnReturn
 
 -- Where a thread stands: its block and active calls, the innermost first; the call that is to begin before anything else;
 -- the variables; `it`; and how many statements were begun.
@@ -53,14 +55,19 @@ pub record ThreadState : Type 0 where
 pub data Transition : Type 0 where
   ended : Transition
   silent : ThreadState → Transition
+  checkpoints : ThreadState → Transition
   says : local.Local → ThreadState → Transition
-  asks : line_op.LineOp → used.ReplyUse → ThreadState → Transition
+  asks : line_op.LineOp → reply_use.ReplyUse → ThreadState → Transition
 
 -- Operands. They are evaluated from left to right, and the first that can't be is said.
 
 abbrev pub and_then : {A B E : Type 0} → Result A E → (A → Result B E) → Result B E
 and_then (Ok a) f = f a
 and_then (Err e) f = Err e
+
+infixl 10 ◌>>=◌
+abbrev pub ◌>>=◌ : {A B E : Type 0} → Result A E → (A → Result B E) → Result B E
+r >>= f = and_then r f
 
 abbrev pub bound_to : ℕ → Option value.Value → Result value.Value local.Local
 bound_to a None = Err (locals.Unbound a)
@@ -84,12 +91,7 @@ given_value s f None = Ok values.Nothing
 given_value s f (Some v) = operand_value s f v
 
 abbrev pub target_value : ThreadState → Frame → target.Target → Result value.Value local.Local
-target_value s f (targets.Class c) = Ok (values.Class c)
-target_value s f (targets.Var a) = variable_value s.variables a
-target_value s f targets.SelfArg = Ok f.self_arg
-target_value s f targets.Arg = Ok f.arg
-target_value s f targets.Other = Ok f.other
-target_value s f targets.It = Ok s.it
+target_value s f r = operand_value s f (operand_of r)
 
 abbrev pub as_object : value.Value → Result ℕ local.Local
 as_object (values.Obj o) = Ok o
@@ -112,32 +114,68 @@ abbrev pub other_object : ThreadState → Frame → ℕ → Option target.Target
 other_object s f o None = Ok None
 other_object s f o (Some r) = and_then (target_object s f r) (λ p. Ok (if p == o then None else Some p))
 
--- What statements ask
+-- What statements do
 
-abbrev pub asking : op.Op → used.ReplyUse → Request
-asking o u = record { op = line_ops.Of o; used = u }
+abbrev pub asking : op.Op → reply_use.ReplyUse → action.Action
+asking o u = actions.Ask (record { op = line_ops.Of o; reply_use = u })
 
--- The operation that a statement asks for, and what its reply is used for. `let`, `return` and `checkpoint` ask for none,
--- and the last row is that of `finish`, where its section is open.
-abbrev pub asked_by : ThreadState → Frame → stmt.Stmt → Result Request local.Local
-asked_by s f (stmts.Class c bases) = Ok (asking (ops.NewClass c bases) uses.Ignore)
-asked_by s f (stmts.Bases c bases) = Ok (asking (ops.SetBases c bases) uses.Ignore)
-asked_by s f (stmts.Put c x v) = and_then (operand_value s f v) (λ w. Ok (asking (ops.TypeSet c x w) uses.Ignore))
-asked_by s f (stmts.Cut c x) = Ok (asking (ops.TypeDel c x) uses.Ignore)
-asked_by s f (stmts.New a c v) = and_then (given_value s f v) (λ w. Ok (asking (ops.New c) (uses.Bind a w)))
-asked_by s f (stmts.Set r x v) = and_then (target_object s f r) (λ o. and_then (operand_value s f v) (λ w. Ok (asking (ops.Set o x w) uses.Write)))
-asked_by s f (stmts.Del r x) = and_then (target_object s f r) (λ o. Ok (asking (ops.Del o x) uses.Write))
-asked_by s f (stmts.Get r x) = and_then (target_read s f r x) (λ o. Ok (asking o uses.Read))
-asked_by s f (stmts.Turn r c) = and_then (target_object s f r) (λ o. Ok (asking (ops.SetClass o c) uses.Ignore))
-asked_by s f (stmts.Share r q) = and_then (target_object s f r) (λ o. and_then (target_object s f q) (λ p. Ok (asking (ops.Share o p) uses.Ignore)))
-asked_by s f (stmts.Super c r x) = and_then (target_object s f r) (λ o. Ok (asking (ops.Super c o x) uses.Read))
-asked_by s f (stmts.Special r x) = and_then (target_object s f r) (λ o. Ok (asking (ops.Special o x) uses.Read))
-asked_by s f (stmts.ClassOf r) = and_then (target_object s f r) (λ o. Ok (asking (ops.ClassOf o) uses.Learn))
-asked_by s f (stmts.Mro c) = Ok (asking (ops.Mro c) uses.Ignore)
-asked_by s f (stmts.Call r x v) = and_then (target_read s f r x) (λ o. and_then (given_value s f v) (λ w. Ok (asking o (uses.Call w))))
-asked_by s f (stmts.CallSuper c r x v) = and_then (target_object s f r) (λ o. and_then (given_value s f v) (λ w. Ok (asking (ops.Super c o x) (uses.Call w))))
-asked_by s f (stmts.Begin r q) = and_then (target_object s f r) (λ o. and_then (other_object s f o q) (λ p. Ok (record { op = line_ops.Begin o p; used = uses.Open })))
-asked_by s f t = Ok (record { op = line_ops.Finish; used = uses.Close })
+-- What a statement does once its operands are evaluated, or the line that says that one can't be. For an operation it is
+-- also said what the reply is used for. `return` ends its function after such a line too.
+abbrev pub action_of : ScriptParts → ThreadState → Frame → stmt.Stmt → Result action.Action local.Local
+action_of p s f (stmts.Class c bases) = Ok (asking (ops.NewClass c bases) uses.Ignore)
+action_of p s f (stmts.Bases c bases) = Ok (asking (ops.SetBases c bases) uses.Ignore)
+action_of p s f (stmts.Put c x v) = do
+  w ← operand_value s f v
+  Ok (asking (ops.TypeSet c x w) uses.Ignore)
+action_of p s f (stmts.Cut c x) = Ok (asking (ops.TypeDel c x) uses.Ignore)
+action_of p s f (stmts.New a c v) = do
+  w ← given_value s f v
+  Ok (asking (ops.New c) (uses.Bind a w))
+action_of p s f (stmts.Set r x v) = do
+  o ← target_object s f r
+  w ← operand_value s f v
+  Ok (asking (ops.Set o x w) uses.Write)
+action_of p s f (stmts.Del r x) = do
+  o ← target_object s f r
+  Ok (asking (ops.Del o x) uses.Write)
+action_of p s f (stmts.Get r x) = do
+  read ← target_read s f r x
+  Ok (asking read uses.Read)
+action_of p s f (stmts.Turn r c) = do
+  o ← target_object s f r
+  Ok (asking (ops.SetClass o c) uses.Ignore)
+action_of p s f (stmts.Share r q) = do
+  o ← target_object s f r
+  other ← target_object s f q
+  Ok (asking (ops.Share o other) uses.Ignore)
+action_of p s f (stmts.Super c r x) = do
+  o ← target_object s f r
+  Ok (asking (ops.Super c o x) uses.Read)
+action_of p s f (stmts.Special r x) = do
+  o ← target_object s f r
+  Ok (asking (ops.Special o x) uses.Read)
+action_of p s f (stmts.ClassOf r) = do
+  o ← target_object s f r
+  Ok (asking (ops.ClassOf o) uses.Learn)
+action_of p s f (stmts.Mro c) = Ok (asking (ops.Mro c) uses.Ignore)
+action_of p s f (stmts.Call r x v) = do
+  read ← target_read s f r x
+  w ← given_value s f v
+  Ok (asking read (uses.Call w))
+action_of p s f (stmts.CallSuper c r x v) = do
+  o ← target_object s f r
+  w ← given_value s f v
+  Ok (asking (ops.Super c o x) (uses.Call w))
+action_of p s f (stmts.Let a v) = do
+  w ← operand_value s f v
+  Ok (actions.Bind a w)
+action_of p s f (stmts.Return v) = Ok (actions.Return (operand_value s f v))
+action_of p s f (stmts.Begin r q) = do
+  o ← target_object s f r
+  other ← other_object s f o q
+  Ok (actions.Ask (record { op = line_ops.Begin o other; reply_use = uses.Open }))
+action_of p s f stmts.Finish = Ok actions.Finish
+action_of p s f stmts.Checkpoint = Ok actions.Checkpoint
 
 -- What becomes of a reply
 
@@ -152,26 +190,30 @@ abbrev pub calling : Call → ThreadState → ThreadState
 calling c s = record s { call = Some c }
 
 -- a block or a call has ended with this value
-abbrev pub returned : given.OnReturn → value.Value → ThreadState → ThreadState
-returned gives.Result v s = with_it v s
-returned gives.Nothing v s = dropped s
-returned (gives.Object o) v s = with_it (values.Obj o) s
+abbrev pub returned : on_return.OnReturn → value.Value → ThreadState → ThreadState
+returned on_returns.Result v s = with_it v s
+returned on_returns.Nothing v s = dropped s
+returned (on_returns.Object o) v s = with_it (values.Obj o) s
 
 -- A hook that is a function is called with self the receiver, and one that is a staticmethod with self none. No other
 -- can be called.
-abbrev pub hook_call : value.Value → value.Value → value.Value → value.Value → given.OnReturn → Call
-hook_call (values.Func f) r o v g = record { callee = Some f; self_arg = r; other = o; arg = v; gives = g }
-hook_call (values.Static f) r o v g = record { callee = Some f; self_arg = values.Nothing; other = o; arg = v; gives = g }
-hook_call c r o v g = record { callee = None; self_arg = r; other = o; arg = v; gives = g }
+abbrev pub hook_call : value.Value → value.Value → value.Value → value.Value → on_return.OnReturn → Call
+hook_call (values.Func f) r o v g = record { callee = Some f; self_arg = r; other = o; arg = v; on_return = g }
+hook_call (values.Static f) r o v g = record { callee = Some f; self_arg = values.Nothing; other = o; arg = v; on_return = g }
+hook_call c r o v g = record { callee = None; self_arg = r; other = o; arg = v; on_return = g }
+
+-- a call with self none, whose result is `it`
+abbrev pub plain_call : Option ℕ → value.Value → Call
+plain_call callee w = record { callee = callee; self_arg = values.Nothing; other = values.Nothing; arg = w; on_return = on_returns.Result }
 
 -- A function that was read is called with self none. No other value can be called.
 abbrev pub value_call : value.Value → value.Value → Call
-value_call (values.Func f) w = record { callee = Some f; self_arg = values.Nothing; other = values.Nothing; arg = w; gives = gives.Result }
-value_call v w = record { callee = None; self_arg = values.Nothing; other = values.Nothing; arg = w; gives = gives.Result }
+value_call (values.Func f) w = plain_call (Some f) w
+value_call v w = plain_call None w
 
 -- a bound function is called with self what it is bound to
 abbrev pub method_call : ℕ → value.Value → value.Value → Call
-method_call f r w = record { callee = Some f; self_arg = r; other = values.Nothing; arg = w; gives = gives.Result }
+method_call f r w = record { callee = Some f; self_arg = r; other = values.Nothing; arg = w; on_return = on_returns.Result }
 
 -- the variable is bound to the value
 abbrev pub binding : ℕ → value.Value → ThreadState → ThreadState
@@ -182,32 +224,35 @@ abbrev pub with_opened : Bool → List Frame → List Frame
 with_opened b [] = []
 with_opened b (f ∷ below) = record f { opened = b } ∷ below
 
--- What becomes of a reply. A reply that the statement has no use for counts as a refusal: the statement ends, and `it` is
--- none. Where a call follows, `it` stays as it was until the call has ended.
-abbrev pub taken : used.ReplyUse → reply.Reply → ThreadState → ThreadState
-taken uses.Read (replies.Value v) s = with_it v s
-taken uses.Read (replies.Hook k c r o v) s = calling (hook_call c r o v gives.Result) s
-taken uses.Learn (replies.Value v) s = with_it v s
-taken uses.Write (replies.Hook k c r o v) s = calling (hook_call c r o v gives.Nothing) s
-taken (uses.Call w) (replies.Value v) s = calling (value_call v w) s
-taken (uses.Call w) (replies.Method f r) s = calling (method_call f r w) s
-taken (uses.Call w) (replies.Hook k c r o v) s = calling (hook_call c r o v gives.Result) s
-taken (uses.Bind a w) (replies.Made o None) s = with_it (values.Obj o) (binding a (values.Obj o) s)
-taken (uses.Bind a w) (replies.Made o (Some init)) s = calling (hook_call init (values.Obj o) values.Nothing w (gives.Object o)) (binding a (values.Obj o) s)
-taken uses.Open replies.Done s = dropped (record s { frames = with_opened true s.frames })
-taken u r s = dropped s
+-- What becomes of the reply of the line, by its use. A reply that the statement has no use for counts as a refusal: the
+-- statement ends, and `it` is none. Where a call follows, `it` stays as it was until the call has ended.
+abbrev pub taken : reply_use.ReplyUse → line_reply.LineReply → ThreadState → ThreadState
+taken uses.Ignore r s = dropped s
+taken uses.Read (line_replies.Of (replies.Value v)) s = with_it v s
+taken uses.Read (line_replies.Of (replies.Hook k c r o v)) s = calling (hook_call c r o v on_returns.Result) s
+taken uses.Read r s = dropped s
+taken uses.Learn (line_replies.Of (replies.Value v)) s = with_it v s
+taken uses.Learn r s = dropped s
+taken uses.Write (line_replies.Of (replies.Hook k c r o v)) s = calling (hook_call c r o v on_returns.Nothing) s
+taken uses.Write r s = dropped s
+taken (uses.Call w) (line_replies.Of (replies.Value v)) s = calling (value_call v w) s
+taken (uses.Call w) (line_replies.Of (replies.Method f r)) s = calling (method_call f r w) s
+taken (uses.Call w) (line_replies.Of (replies.Hook k c r o v)) s = calling (hook_call c r o v on_returns.Result) s
+taken (uses.Call w) r s = dropped s
+taken (uses.Bind a w) (line_replies.Of (replies.Made o None)) s = with_it (values.Obj o) (binding a (values.Obj o) s)
+taken (uses.Bind a w) (line_replies.Of (replies.Made o (Some init))) s =
+    calling (hook_call init (values.Obj o) values.Nothing w (on_returns.Object o)) (binding a (values.Obj o) s)
+taken (uses.Bind a w) r s = dropped s
+taken uses.Open (line_replies.Of replies.Done) s = dropped (record s { frames = with_opened true s.frames })
+taken uses.Open r s = dropped s
+taken uses.Close line_replies.Kept s = dropped s
+taken uses.Close (line_replies.Suspended n) s = dropped s
+taken uses.Close (line_replies.Of r) s = dropped s
 
 -- The next step
 
--- A statement of frame f, which stands above these frames, in a state in which f has left the statement; by what its
--- operands gave.
-
-abbrev pub let_next : ThreadState → ℕ → Result value.Value local.Local → Transition
-let_next s a (Ok v) = silent (binding a v s)
-let_next s a (Err l) = says l (dropped s)
-
 -- `return` ends its function, with none where its operand has no value
-abbrev pub return_next : given.OnReturn → ThreadState → Result value.Value local.Local → Transition
+abbrev pub return_next : on_return.OnReturn → ThreadState → Result value.Value local.Local → Transition
 return_next g s (Ok v) = silent (returned g v s)
 return_next g s (Err l) = says l (returned g values.Nothing s)
 
@@ -216,16 +261,18 @@ abbrev pub finish_next : ThreadState → Bool → Transition
 finish_next s true = asks line_ops.Finish uses.Close (record s { frames = with_opened false s.frames })
 finish_next s false = silent (dropped s)
 
-abbrev pub ask_next : ThreadState → Result Request local.Local → Transition
-ask_next s (Ok a) = asks a.op a.used s
-ask_next s (Err l) = says l (dropped s)
+-- What comes of a statement of frame f, which stands above these frames, by what it does. In this state f has left the
+-- statement.
+abbrev pub action_next : ThreadState → Frame → List Frame → Result action.Action local.Local → Transition
+action_next s f below (Ok (actions.Bind a v)) = silent (binding a v s)
+action_next s f below (Ok (actions.Return v)) = return_next f.on_return (record s { frames = below }) v
+action_next s f below (Ok actions.Finish) = finish_next s f.opened
+action_next s f below (Ok actions.Checkpoint) = checkpoints s
+action_next s f below (Ok (actions.Ask a)) = asks a.op a.reply_use s
+action_next s f below (Err l) = says l (dropped s)
 
-abbrev pub statement_next : ThreadState → Frame → List Frame → stmt.Stmt → Transition
-statement_next s f below (stmts.Let a v) = let_next s a (operand_value s f v)
-statement_next s f below (stmts.Return v) = return_next f.gives (record s { frames = below }) (operand_value s f v)
-statement_next s f below stmts.Finish = finish_next s f.opened
-statement_next s f below stmts.Checkpoint = silent s
-statement_next s f below t = ask_next s (asked_by s f t)
+abbrev pub statement_next : ScriptParts → ThreadState → Frame → List Frame → stmt.Stmt → Transition
+statement_next p s f below t = action_next s f below (action_of p s f t)
 
 -- the state in which frame f, above these, has begun its first statement
 abbrev pub begun_in : ThreadState → Frame → List Frame → List stmt.Stmt → ThreadState
@@ -234,11 +281,11 @@ begun_in s f below rest = record s { frames = record f { rest = rest } ∷ below
 -- The first statement that is left in a frame, or the frame's end. Where as many statements were begun as the script
 -- allows, the thread ends.
 abbrev pub frame_next : ScriptParts → ThreadState → Frame → List Frame → List stmt.Stmt → Transition
-frame_next p s f below [] = silent (returned f.gives values.Nothing (record s { frames = below }))
+frame_next p s f below [] = silent (returned f.on_return values.Nothing (record s { frames = below }))
 frame_next p s f below (t ∷ rest) =
     if nat_le p.budget s.begun
     then says locals.Budget (record s { frames = [] })
-    else statement_next (begun_in s f below rest) (record f { rest = rest }) below t
+    else statement_next p (begun_in s f below rest) (record f { rest = rest }) below t
 
 -- how many calls of a thread may be active
 abbrev pub most_calls : ℕ
@@ -246,16 +293,23 @@ most_calls = 16
 
 -- the frame of a call of function f
 abbrev pub called : ScriptParts → Call → ℕ → Frame
-called p c f = record { self_arg = c.self_arg; other = c.other; arg = c.arg; rest = slice_index_or p.bodies f []; opened = false; gives = c.gives }
+called p c f = record {
+  self_arg = c.self_arg;
+  other = c.other;
+  arg = c.arg;
+  rest = slice_index_or p.bodies f [];
+  opened = false;
+  on_return = c.on_return;
+}
 
 -- a call begins, where its callee can be called and no more calls are active than may be; the frames are one more than the
 -- calls, since the first is the block
 abbrev pub call_next : ScriptParts → ThreadState → Call → Option ℕ → Transition
-call_next p s c None = says locals.NotCallable (returned c.gives values.Nothing s)
+call_next p s c None = says locals.NotCallable (returned c.on_return values.Nothing s)
 call_next p s c (Some f) =
     if nat_le (length s.frames) most_calls
     then silent (record s { frames = called p c f ∷ s.frames })
-    else says locals.Depth (returned c.gives values.Nothing s)
+    else says locals.Depth (returned c.on_return values.Nothing s)
 
 abbrev pub frames_next : ScriptParts → ThreadState → List Frame → Transition
 frames_next p s [] = ended
@@ -269,10 +323,21 @@ pending_next p s (Some c) = call_next p (record s { call = None }) c c.callee
 abbrev pub next_of : ScriptParts → ThreadState → Transition
 next_of p s = pending_next p s s.call
 
+-- the frame of a block
+abbrev pub block_frame : List stmt.Stmt → Frame
+block_frame block = record {
+  self_arg = values.Nothing;
+  other = values.Nothing;
+  arg = values.Nothing;
+  rest = block;
+  opened = false;
+  on_return = on_returns.Nothing;
+}
+
 -- the state in which a thread begins a block with these variables
 abbrev pub start : List stmt.Stmt → Variables → ThreadState
 start block variables = record {
-  frames = record { self_arg = values.Nothing; other = values.Nothing; arg = values.Nothing; rest = block; opened = false; gives = gives.Nothing } ∷ [];
+  frames = block_frame block ∷ [];
   call = None;
   variables = variables;
   it = values.Nothing;

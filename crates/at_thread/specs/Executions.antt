@@ -1,8 +1,7 @@
 -- Which lists of lines are an execution of a block.
-use Rattle.std.specs.Prelude.{◌≡◌, ℕ, zero, suc, Bool, true, false, List, [], ◌∷◌, Option, Some, None}
+use Rattle.std.specs.Prelude.{◌≡◌, ℕ, zero, suc, Bool, true, false, List, [], ◌∷◌}
 use Rattle.at_value.specs.declared.operation.Op as op
 use Rattle.at_value.specs.declared.operation.Op.TheVariants as ops
-use Rattle.at_value.specs.declared.reply.Reply as reply
 use Rattle.at_value.specs.declared.reply.Reply.TheVariants as replies
 use Rattle.at_line.specs.declared.line.Local as local
 use Rattle.at_line.specs.declared.line.Local.TheVariants as locals
@@ -12,18 +11,23 @@ use Rattle.at_line.specs.declared.line.LineReply as line_reply
 use Rattle.at_line.specs.declared.line.LineReply.TheVariants as line_replies
 use Rattle.at_line.specs.declared.line.What as what
 use Rattle.at_line.specs.declared.line.What.TheVariants as whats
-use Rattle.at_thread.specs.declared.next.ReplyUse as used
+use Rattle.at_thread.specs.declared.next.ReplyUse as reply_use
 use Rattle.at_script.specs.Parts.{ScriptParts}
-use Rattle.at_thread.specs.Execution.{ThreadState, Transition, ended, silent, says, asks, dropped, taken, next_of}
+use Rattle.at_thread.specs.Execution.{ThreadState, Transition, ended, silent, checkpoints, says, asks, dropped, taken, next_of}
 
--- What a thread takes of the reply of a line. The begin of a section is done, and its end was kept or suspended; no other
--- operation has such a reply.
-abbrev pub reply_taken : line_op.LineOp → line_reply.LineReply → Option reply.Reply
-reply_taken (line_ops.Of o) (line_replies.Of r) = Some r
-reply_taken (line_ops.Begin o p) (line_replies.Of replies.Done) = Some replies.Done
-reply_taken line_ops.Finish line_replies.Kept = Some replies.Done
-reply_taken line_ops.Finish (line_replies.Suspended k) = Some replies.Done
-reply_taken o r = None
+-- Whether a line of the operation can have the reply: the begin of a section is done, its end was kept or suspended, and any
+-- other operation has a reply of the data model.
+abbrev pub can_reply : line_op.LineOp → line_reply.LineReply → Bool
+can_reply (line_ops.Of o) (line_replies.Of r) = true
+can_reply (line_ops.Of o) line_replies.Kept = false
+can_reply (line_ops.Of o) (line_replies.Suspended n) = false
+can_reply (line_ops.Begin o p) (line_replies.Of replies.Done) = true
+can_reply (line_ops.Begin o p) (line_replies.Of r) = false
+can_reply (line_ops.Begin o p) line_replies.Kept = false
+can_reply (line_ops.Begin o p) (line_replies.Suspended n) = false
+can_reply line_ops.Finish (line_replies.Of r) = false
+can_reply line_ops.Finish line_replies.Kept = true
+can_reply line_ops.Finish (line_replies.Suspended n) = true
 
 -- an operation that can be a write
 abbrev pub can_write : op.Op → Bool
@@ -36,37 +40,59 @@ can_write (ops.Set o x v) = true
 can_write (ops.Del o x) = true
 can_write (ops.SetClass o c) = true
 can_write (ops.Share o p) = true
-can_write o = false
+can_write (ops.Get o x) = false
+can_write (ops.TypeGet c x) = false
+can_write (ops.Super c o x) = false
+can_write (ops.Special o x) = false
+can_write (ops.ClassOf o) = false
+can_write (ops.Mro c) = false
 
 -- an operation that writes an object's own
 abbrev pub can_wear : op.Op → Bool
+can_wear (ops.NewClass c bases) = false
+can_wear (ops.TypeSet c x v) = false
+can_wear (ops.TypeDel c x) = false
+can_wear (ops.SetBases c bases) = false
+can_wear (ops.New c) = false
 can_wear (ops.Set o x v) = true
 can_wear (ops.Del o x) = true
 can_wear (ops.SetClass o c) = true
 can_wear (ops.Share o p) = true
-can_wear o = false
+can_wear (ops.Get o x) = false
+can_wear (ops.TypeGet c x) = false
+can_wear (ops.Super c o x) = false
+can_wear (ops.Special o x) = false
+can_wear (ops.ClassOf o) = false
+can_wear (ops.Mro c) = false
 
--- Whether a line may stand in the place of an operation: that the history has no room, in that of one that can be a write;
--- that a head can't be written any more, in that of one that writes an object.
+-- Whether a line may stand in the place of an operation of the data model: that the history has no room, in that of one
+-- that can be a write; that a head can't be written any more, in that of one that writes an object.
+abbrev pub stands_for_op : op.Op → local.Local → Bool
+stands_for_op o (locals.Full place) = can_write o
+stands_for_op o (locals.Worn sequence) = can_wear o
+stands_for_op o locals.Depth = false
+stands_for_op o locals.Budget = false
+stands_for_op o locals.Kind = false
+stands_for_op o (locals.Unbound a) = false
+stands_for_op o locals.NotCallable = false
+
+-- no line stands in the place of the begin or the end of a section
 abbrev pub stands_for : line_op.LineOp → local.Local → Bool
-stands_for (line_ops.Of o) (locals.Full place) = can_write o
-stands_for (line_ops.Of o) (locals.Worn sequence) = can_wear o
-stands_for o l = false
+stands_for (line_ops.Of o) l = stands_for_op o l
+stands_for (line_ops.Begin o p) l = false
+stands_for line_ops.Finish l = false
 
--- the rest goes on with what becomes of the reply, where it may be replied
-abbrev pub TakesReply : (ThreadState → Type 0) → used.ReplyUse → ThreadState → Option reply.Reply → Type 0
-TakesReply on u s None = ⊥
-TakesReply on u s (Some r) = on (taken u r s)
-
--- the line is of this operation with a reply to it, or stands in its place, and the rest goes on
-abbrev pub Answers : (ThreadState → Type 0) → line_op.LineOp → used.ReplyUse → ThreadState → what.What → Type 0
-Answers on o u s (whats.Did place path p r) = (p ≡ o) × TakesReply on u s (reply_taken o r)
+-- the line is of this operation with a reply that it can have, or stands in its place, and the rest goes on with what
+-- becomes of it
+abbrev pub Answers : (ThreadState → Type 0) → line_op.LineOp → reply_use.ReplyUse → ThreadState → what.What → Type 0
+Answers on o u s (whats.Did place path p r) = (p ≡ o) × (can_reply o r ≡ true) × on (taken u r s)
 Answers on o u s (whats.Local l) = (stands_for o l ≡ true) × on (dropped s)
 
 -- what is demanded has the first of these lines, or none, and the rest goes on
 abbrev pub Fits : (ThreadState → List what.What → Type 0) → Transition → List what.What → Type 0
 Fits on ended lines = ⊥
 Fits on (silent s) lines = on s lines
+Fits on (checkpoints s) lines = on s lines
 Fits on (says l s) [] = ⊥
 Fits on (says l s) (w ∷ lines) = (w ≡ whats.Local l) × on s lines
 Fits on (asks o u s) [] = ⊥

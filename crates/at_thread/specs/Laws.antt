@@ -25,7 +25,11 @@ abbrev pub told_by : what.What → List Told
 told_by (whats.Did place way operation reply) = replied place way reply ∷ []
 told_by (whats.Local (locals.Full place)) = declined (locals.Full place) ∷ []
 told_by (whats.Local (locals.Worn sequence)) = declined (locals.Worn sequence) ∷ []
-told_by (whats.Local l) = []
+told_by (whats.Local locals.Depth) = []
+told_by (whats.Local locals.Budget) = []
+told_by (whats.Local locals.Kind) = []
+told_by (whats.Local (locals.Unbound a)) = []
+told_by (whats.Local locals.NotCallable) = []
 
 abbrev pub all_told : List what.What → List Told
 all_told [] = []
@@ -34,20 +38,24 @@ all_told (w ∷ more) = told_by w ++ all_told more
 -- two executions from one state that are told the same are the same
 abbrev pub RepliesDetermineExecutions : Type 0
 RepliesDetermineExecutions =
-    (s : ScriptParts) (begin first_end second_end : ThreadState) (first second : List what.What) → IsExecution s begin first first_end → IsExecution s begin second second_end
+    (s : ScriptParts) (begin first_end second_end : ThreadState) (first second : List what.What)
+    → IsExecution s begin first first_end → IsExecution s begin second second_end
     → all_told first ≡ all_told second → (first ≡ second) × (first_end ≡ second_end)
 
 -- an execution of a block has at most two lines a statement begun and one more, and begins at most as many statements as
 -- the script allows
 abbrev pub ExecutionsAreShort : Type 0
 ExecutionsAreShort =
-    (s : ScriptParts) (block : List stmt.Stmt) (variables : Variables) (lines : List what.What) (end : ThreadState) → IsExecution s (start block variables) lines end
-    → (length lines ≤ 2 * end.begun + 1) × (end.begun ≤ s.budget)
+    (s : ScriptParts) (block : List stmt.Stmt) (variables : Variables) (lines : List what.What) (end : ThreadState)
+    → IsExecution s (start block variables) lines end → (length lines ≤ 2 * end.begun + 1) × (end.begun ≤ s.budget)
 
 -- the lines of a thread are numbered from 1 without a gap
 abbrev pub NumbersHaveNoGap : Type 0
-NumbersHaveNoGap = (thread i : ℕ) (says : List what.What) (line : Line) → slice_get (numbered thread 1 says) i ≡ Some line → (line.number ≡ suc i) × (line.thread ≡ thread)
+NumbersHaveNoGap =
+    (thread i : ℕ) (says : List what.What) (line : Line) → slice_get (numbered thread 1 says) i ≡ Some line
+    → (line.number ≡ suc i) × (line.thread ≡ thread)
 
 -- a line that a state demands by itself names no limit
 abbrev pub OwnLinesNameNoLimit : Type 0
-OwnLinesNameNoLimit = (s : ScriptParts) (before after : ThreadState) (l : local.Local) → next_of s before ≡ says l after → NamesNoLimit (whats.Local l)
+OwnLinesNameNoLimit =
+    (s : ScriptParts) (before after : ThreadState) (l : local.Local) → next_of s before ≡ says l after → NamesNoLimit (whats.Local l)

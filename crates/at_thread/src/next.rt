@@ -1,4 +1,4 @@
-//! What a thread demands, and what the reply to it is used for.
+//! What a thread demands next, and what the reply to it is used for.
 use at_line::{LineOp, Local};
 use at_value::{Func, Obj, Value};
 
@@ -34,11 +34,26 @@ pub enum OnReturn {
     Object(Obj),
 }
 
-/// An operation, and what becomes of its reply.
+/// An operation, and what its reply is used for.
 #[derive(Clone, Copy, Debug, PartialEq, Eq)]
 pub struct Request {
     pub op: LineOp,
-    pub used: ReplyUse,
+    pub reply_use: ReplyUse,
+}
+
+/// What a statement does, once its operands are evaluated.
+#[derive(Clone, Copy, Debug, PartialEq, Eq)]
+pub enum Action {
+    /// The variable is bound to the value.
+    Bind(u16, Value),
+    /// The block or function ends with the value, or with none after the line that says that there is none.
+    Return(Result<Value, Local>),
+    /// The section of the block or function ends.
+    Finish,
+    /// No read of the thread is under way.
+    Checkpoint,
+    /// An operation is asked for.
+    Ask(Request),
 }
 
 /// A call that is to begin: the function, where the callee can be called, and what it is called with.
@@ -47,7 +62,7 @@ pub struct Call {
     pub self_arg: Value,
     pub other: Value,
     pub arg: Value,
-    pub gives: OnReturn,
+    pub on_return: OnReturn,
     pub callee: Option<Func>,
 }
 
@@ -58,6 +73,8 @@ pub enum Next {
     Ended,
     /// Nothing: it goes on.
     Silent,
+    /// A checkpoint: no read of the thread is under way. It writes no line.
+    Checkpoint,
     /// A line that is no operation.
     Says(Local),
     /// An operation, whose reply the thread takes with this use.

@@ -1,6 +1,6 @@
 //! A thread that executes the statements of a script, and the laws of executions.
 use crate::{Next, ReplyUse, Thread, laws};
-use at_line::{LineOp, Local};
+use at_line::{LineOp, LineReply, Local};
 use at_script::{Block, Script, Stmt, read};
 use at_value::{Bases, Class, Func, HookKind, Name, Obj, Op, Reply, Value};
 use std::alloc::{AllocError, Global};
@@ -40,8 +40,8 @@ fn function() -> Value {
 }
 
 /// The demand of an operation.
-fn asks(op: Op, used: ReplyUse) -> Next {
-    Next::Asks(LineOp::Of(op), used)
+fn asks(op: Op, reply_use: ReplyUse) -> Next {
+    Next::Asks(LineOp::Of(op), reply_use)
 }
 
 fn hook() -> Reply {
@@ -57,15 +57,16 @@ fn hook() -> Reply {
 
 /// Answers a demand, where it is that of an operation.
 fn answer(thread: &mut Thread<'_>, demand: &Next, told: Told) {
-    let Next::Asks(_, used) = demand else {
+    let Next::Asks(_, reply_use) = demand else {
         return;
     };
-    match told {
-        Told::Done => thread.accept(used, &Reply::Done),
-        Told::Made => thread.accept(used, &Reply::Made(object(), Some(function()))),
-        Told::Hook => thread.accept(used, &hook()),
-        Told::Declined => thread.decline(),
-    }
+    let reply = match told {
+        Told::Done => Reply::Done,
+        Told::Made => Reply::Made(object(), Some(function())),
+        Told::Hook => hook(),
+        Told::Declined => return thread.decline(),
+    };
+    thread.accept(reply_use, &LineReply::Of(reply));
 }
 
 /// Compares what a thread demands next, and answers it.
