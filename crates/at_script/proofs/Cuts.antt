@@ -5,7 +5,7 @@ use Rattle.std.proofs.lemmas.List.Splits.{slice_split_first}
 use Rattle.std.proofs.lemmas.Option.{cond_some}
 use Rattle.at_script.specs.declared.pieces.Part.{Part}
 use Rattle.at_script.specs.declared.pieces.Part.TheVariants.{Line, Word, Dot, Colon, Comma, Quote}
-use Rattle.at_script.specs.Pieces.{keeps, kept}
+use Rattle.at_script.specs.Views.{counts, counted}
 use Rattle.std.proofs.lemmas.Bool.{ltb-true, ltb-false}
 
 -- the first part ends where the test first passes
@@ -35,10 +35,10 @@ pub cut_nowhere : (p : ℕ → Bool) (xs : List ℕ) → position p xs ≡ None 
 cut_nowhere p xs h = whole_from p xs (none_at (position_or_len p xs) (length xs) h)
 
 -- a part that counts stands before the others, and one that doesn't is left out
-pub kept_step : (part : Part) (first : List ℕ) (rest : List (List ℕ)) → kept part (first ∷ rest) ≡ cond (keeps part first) (first ∷ kept part rest) (kept part rest)
-kept_step Line first rest = refl
-kept_step Word first rest = refl
-kept_step Dot first rest = refl
-kept_step Colon first rest = refl
-kept_step Comma first rest = refl
-kept_step Quote first rest = refl
+pub counted_step : (part : Part) (first : List ℕ) (rest : List (List ℕ)) → counted part (first ∷ rest) ≡ cond (counts part first) (first ∷ counted part rest) (counted part rest)
+counted_step Line first rest = refl
+counted_step Word first rest = refl
+counted_step Dot first rest = refl
+counted_step Colon first rest = refl
+counted_step Comma first rest = refl
+counted_step Quote first rest = refl

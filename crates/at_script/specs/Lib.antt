@@ -1,7 +1,10 @@
+pub mod Bytes
+pub mod Limits
 pub mod Pieces
 pub mod Words
 pub mod Literals
 pub mod Shapes
+pub mod Views
 pub mod Tables
 pub mod Operands
 pub mod Parts

@@ -1,9 +1,8 @@
 -- Values as a script writes them.
 use Rattle.std.specs.Prelude.{ℕ, ◌==◌, ◌&&◌, List, length, Option, Some, None, if◌then◌else◌, codes, bytes_eq, option_and_then, ℤ}
-use Rattle.std.specs.Option.{option_map, option_copied}
+use Rattle.std.specs.Option.{option_map}
 use Rattle.std.specs.List.{slice_split}
-use Rattle.at_script.specs.declared.literal.Literal.{Literal}
-use Rattle.at_script.specs.declared.literal.Literal.TheVariants.{Nothing, Int, Text, Word, Static, ClassM, Prop}
+use Rattle.at_script.specs.Bytes as bytes
 use Rattle.at_script.specs.Pieces.{two_parts, three_parts}
 use Rattle.at_script.specs.Words.{identifier_of, class_word_of, integer_of}
 
@@ -21,35 +20,26 @@ pub data Written : Type 0 where
   classm : List ℕ → Written
   prop : Option (List ℕ) → Option (List ℕ) → Option (List ℕ) → Written
 
-abbrev pub written : Literal → Written
-written Nothing = nothing
-written (Int z) = integer z
-written (Text t) = quoted t.now
-written (Word w) = named w.now
-written (Static f) = static f.now
-written (ClassM f) = classm f.now
-written (Prop get set del) = prop (option_copied get) (option_copied set) (option_copied del)
-
 -- the first that there is
 abbrev pub or : {A : Type 0} → Option A → Option A → Option A
 or None second = second
 or (Some x) second = Some x
 
--- an identifier between two double quotes; 34 is the code of a quote
+-- an identifier between two double quotes
 abbrev pub within_quotes : List ℕ × List ℕ × List ℕ → Option (List ℕ)
 within_quotes parts = if length parts.0 == 0 && length parts.2 == 0 then identifier_of parts.1 else None
 
 abbrev pub quoted_of : List ℕ → Option (List ℕ)
-quoted_of word = three_parts (slice_split (λ b. b == 34) word) >>= within_quotes
+quoted_of word = three_parts (slice_split (λ b. b == bytes.double_quote) word) >>= within_quotes
 
 -- a function of a property, or `-` where it has none
 abbrev pub function_of : List ℕ → Option (Option (List ℕ))
 function_of word = if bytes_eq word (codes "-") then Some None else option_map Some (identifier_of word)
 
--- `P,P,P`: what reads, what writes and what deletes; 44 is the code of a comma
+-- `P,P,P`: what reads, what writes and what deletes
 abbrev pub property_of : List ℕ → Option Written
 property_of word = do
-  parts ← three_parts (slice_split (λ b. b == 44) word)
+  parts ← three_parts (slice_split (λ b. b == bytes.comma) word)
   get ← function_of parts.0
   set ← function_of parts.1
   del ← function_of parts.2
@@ -64,9 +54,8 @@ wrapped sides =
     then option_map classm (identifier_of sides.1)
     else if bytes_eq sides.0 (codes "prop") then property_of sides.1 else None
 
--- 58 is the code of a colon
 abbrev pub wrapped_of : List ℕ → Option Written
-wrapped_of word = two_parts (slice_split (λ b. b == 58) word) >>= wrapped
+wrapped_of word = two_parts (slice_split (λ b. b == bytes.colon) word) >>= wrapped
 
 -- `none`, a number, a text, the name of a class, a function or a variable, or a function that is wrapped
 abbrev pub value_of : List ℕ → Option Written

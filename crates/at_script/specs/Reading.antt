@@ -1,4 +1,5 @@
--- How the reader comes to the statements of a block: line by line. `Script` says what they are.
+-- private: about the reader's own types; no public clause cites it. How the reader comes to the statements of a block,
+-- line by line; `Script` says what they are.
 use Rattle.std.specs.Prelude.{ℕ, List, [], ◌∷◌, ◌++◌, Option, Some, None, if◌then◌else◌, codes}
 use Rattle.std.specs.Option.{option_map}
 use Rattle.at_value.specs.Widths as widths

@@ -16,6 +16,8 @@ use Rattle.at_value.specs.Widths as widths
 use Rattle.at_script.specs.declared.tables.Tables.{Tables}
 use Rattle.at_script.specs.declared.stmt.Stmt.{Stmt}
 use Rattle.at_script.specs.Parts.{ScriptParts, script_with}
+use Rattle.at_script.specs.Bytes as bytes
+use Rattle.at_script.specs.Limits as limits
 use Rattle.at_script.specs.Pieces.{is_blank, is_said, is_word, one_part, two_parts}
 use Rattle.at_name.specs.Texts.{place_of, interned, all_interned}
 use Rattle.at_script.specs.Literals.{◌>>=◌}
@@ -23,21 +25,22 @@ use Rattle.at_script.specs.Shapes.{Said, words_say, declared_by}
 use Rattle.at_script.specs.Tables.{opening, func_at, statement_in}
 use Rattle.at_script.specs.Words.{identifier_of}
 
--- a newline, a tab, a carriage return, or a character of ASCII that prints
+-- a newline, a tab, a carriage return, or a byte of ASCII that prints
 abbrev pub is_allowed : ℕ → Bool
-is_allowed byte = byte == 10 || byte == 9 || byte == 13 || (nat_le 32 byte && nat_le byte 126)
+is_allowed byte =
+    byte == bytes.newline || byte == bytes.tab || byte == bytes.carriage_return || (nat_le bytes.space byte && nat_le byte bytes.tilde)
 
--- at most 1,048,576 bytes, and only such as are allowed
+-- no more bytes than a script may have, and only such as are allowed
 abbrev pub is_readable : List ℕ → Bool
-is_readable bytes = nat_le (length bytes) 1048576 && list_all is_allowed bytes
+is_readable text = nat_le (length text) limits.most_bytes && list_all is_allowed text
 
--- the bytes without a newline at their end, which begins no line; 10 is the code of a newline
+-- the bytes without a newline at their end, which begins no line
 abbrev pub without_last_newline : List ℕ → List ℕ
-without_last_newline bytes = if ends_with nat_eq bytes (10 ∷ []) then take (length bytes - 1) bytes else bytes
+without_last_newline text = if ends_with nat_eq text (bytes.newline ∷ []) then take (length text - 1) text else text
 
 -- the parts between newlines
 abbrev pub lines_of : List ℕ → List (List ℕ)
-lines_of bytes = slice_split (λ b. b == 10) (without_last_newline bytes)
+lines_of text = slice_split (λ b. b == bytes.newline) (without_last_newline text)
 
 -- the words between blanks
 abbrev pub words_in : List ℕ → List (List ℕ)
@@ -135,7 +138,7 @@ block_read t lines = (before_end lines >>= all_say) >>= statements_in t
 
 -- a script of the block `main`, with the budget that a script has where it says none
 abbrev pub script_read : List Stmt × Tables → Option ScriptParts
-script_read read = Some (script_with 10000 read.0 read.1)
+script_read read = Some (script_with limits.usual_budget read.0 read.1)
 
 -- the script of the lines after the header
 abbrev pub script_of_lines : List (List ℕ) → Option ScriptParts
@@ -148,4 +151,4 @@ script_of_lines lines = do
 
 -- the script that the bytes write
 abbrev pub script_of : List ℕ → Option ScriptParts
-script_of bytes = if is_readable bytes then headed (lines_of bytes) >>= script_of_lines else None
+script_of text = if is_readable text then headed (lines_of text) >>= script_of_lines else None

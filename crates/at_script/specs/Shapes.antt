@@ -2,11 +2,10 @@
 use Rattle.std.specs.Prelude.{ℕ, ◌==◌, List, [], ◌∷◌, Option, Some, None, if◌then◌else◌, codes, bytes_eq}
 use Rattle.std.specs.Option.{option_map}
 use Rattle.std.specs.List.{slice_split}
-use Rattle.at_script.specs.declared.shape.Shape.{Shape}
-use Rattle.at_script.specs.declared.shape.Shape.TheVariants.{Class, Put, Cut, New, Mro, Set, Del, Get, Super, Special, ClassOf}
-use Rattle.at_script.specs.Pieces.{pieces_left, one_part, two_parts}
+use Rattle.at_script.specs.Bytes as bytes
+use Rattle.at_script.specs.Pieces.{one_part, two_parts}
 use Rattle.at_script.specs.Words.{identifier_of, attribute_name_of, class_word_of}
-use Rattle.at_script.specs.Literals.{◌>>=◌, Written, written, value_of}
+use Rattle.at_script.specs.Literals.{◌>>=◌, Written, value_of}
 
 -- A line in texts. The owner of an attribute that is read or written is a variable or a class.
 pub data Said : Type 0 where
@@ -22,23 +21,10 @@ pub data Said : Type 0 where
   special : List ℕ → List ℕ → Said
   classof : List ℕ → Said
 
-abbrev pub said : Shape → Said
-said (Class c bases) = class c.now (pieces_left bases)
-said (Put c x v) = put c.now x.now (written v)
-said (Cut c x) = cut c.now x.now
-said (New a c v) = new a.now c.now (option_map written v)
-said (Mro c) = mro c.now
-said (Set r x v) = set r.now x.now (written v)
-said (Del r x) = del r.now x.now
-said (Get r x) = get r.now x.now
-said (Super c r x) = super_read c.now r.now x.now
-said (Special r x) = special r.now x.now
-said (ClassOf r) = classof r.now
-
 -- what stands on the two sides of the one dot, of which the second names an attribute
 abbrev pub attribute_of : List ℕ → Option (List ℕ × List ℕ)
 attribute_of word = do
-  sides ← two_parts (slice_split (λ b. b == 46) word)
+  sides ← two_parts (slice_split (λ b. b == bytes.dot) word)
   name ← attribute_name_of sides.1
   Some (sides.0, name)
 

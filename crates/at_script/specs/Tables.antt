@@ -11,6 +11,7 @@ use Rattle.at_script.specs.declared.stmt.Operand.TheVariants as operands
 use Rattle.at_value.specs.declared.value.Value as value
 use Rattle.at_value.specs.declared.value.Value.TheVariants as values
 use Rattle.at_value.specs.Widths as widths
+use Rattle.at_script.specs.Limits as limits
 use Rattle.at_script.specs.Words.{class_word_of}
 use Rattle.at_name.specs.Texts.{place_of, interned, special_texts}
 use Rattle.at_script.specs.Literals.{◌>>=◌, Written, nothing, integer, quoted, named, static, classm, prop}
@@ -52,16 +53,12 @@ bases_at t words = if nat_le (length words) widths.most_bases then option_map or
 abbrev pub func_at : Tables → List ℕ → Option ℕ
 func_at t text = place_of text t.funcs
 
--- how many variables there may be
-abbrev pub most_variables : ℕ
-most_variables = 1024
-
 -- the number of a variable, where there is room for it and no class and no function is called as it is
 abbrev pub variable_in : Tables → List ℕ → Option (ℕ × Tables)
 variable_in t text =
     if is_some (place_of text t.classes) || is_some (func_at t text)
     then None
-    else option_map (λ found. (found.0, record t { vars = found.1 })) (interned most_variables text t.vars)
+    else option_map (λ found. (found.0, record t { vars = found.1 })) (interned limits.most_variables text t.vars)
 
 -- the number of the name of an attribute or of a text, where there is room for it
 abbrev pub name_in : Tables → List ℕ → Option (ℕ × Tables)

@@ -4,14 +4,16 @@ use Rattle.std.specs.List.{list_all, starts_with, ends_with}
 use Rattle.std.specs.Char.{is_ascii_alphabetic, is_ascii_alphanumeric}
 use Rattle.std.specs.Fmt.{signed_decimal}
 use Rattle.std.specs.Str.Parse.{signed_digits_value}
+use Rattle.at_script.specs.Bytes as bytes
+use Rattle.at_script.specs.Limits as limits
 
--- a letter or `_`, of which 95 is the code
+-- a letter or `_`
 abbrev pub begins_identifier : ℕ → Bool
-begins_identifier byte = is_ascii_alphabetic byte || byte == 95
+begins_identifier byte = is_ascii_alphabetic byte || byte == bytes.underscore
 
 -- a letter, a digit or `_`
 abbrev pub continues_identifier : ℕ → Bool
-continues_identifier byte = is_ascii_alphanumeric byte || byte == 95
+continues_identifier byte = is_ascii_alphanumeric byte || byte == bytes.underscore
 
 -- a letter or `_`, and then letters, digits or `_`
 abbrev pub has_identifier_form : List ℕ → Bool
@@ -24,9 +26,9 @@ is_reserved word =
     bytes_eq word (codes "none") || bytes_eq word (codes "self") || bytes_eq word (codes "arg") || bytes_eq word (codes "other")
     || bytes_eq word (codes "it") || bytes_eq word (codes "object")
 
--- an identifier has at most 32 bytes and isn't reserved
+-- an identifier has no more bytes than it may and isn't reserved
 abbrev pub is_identifier : List ℕ → Bool
-is_identifier word = nat_le (length word) 32 && has_identifier_form word && not (is_reserved word)
+is_identifier word = nat_le (length word) limits.most_identifier_bytes && has_identifier_form word && not (is_reserved word)
 
 -- Names that begin and end with `__` belong to the language (Python language reference, section 2.3.2).
 abbrev pub is_system_name : List ℕ → Bool
@@ -67,8 +69,14 @@ abbrev pub class_word_of : List ℕ → Option (List ℕ)
 class_word_of word = if is_class_word word then Some word else None
 
 -- the signed numbers of 32 bits
+abbrev pub least_integer : ℤ
+least_integer = negsuc 2147483647
+
+abbrev pub greatest_integer : ℤ
+greatest_integer = pos 2147483647
+
 abbrev pub is_in_range : ℤ → Bool
-is_in_range z = int_le (negsuc 2147483647) z && int_le z (pos 2147483647)
+is_in_range z = int_le least_integer z && int_le z greatest_integer
 
 -- The number in the range of 32 bits whose decimal text is the word: the value of its digits, if it is written so.
 abbrev pub integer_of : List ℕ → Option ℤ

@@ -3,6 +3,8 @@ ghost use Rattle.std.specs.Prelude.{◌≡◌};
 ghost use Rattle.at_script.specs.declared.fault.ReadFault.TheVariants.{NoMemory};
 
 use std::alloc::AllocError;
+use std::error::Error;
+use std::fmt;
 
 /// What is wrong with a line of a script.
 #[derive(Clone, Copy, Debug, PartialEq, Eq)]
@@ -33,6 +35,27 @@ pub enum Cause {
     Script,
 }
 
+impl fmt::Display for Cause {
+    fn fmt<W: fmt::Write>(&self, f: &mut fmt::Formatter<W>) -> fmt::Result {
+        f.write_str(match self {
+            Cause::Byte => "a byte that no script has",
+            Cause::Header => "the first line isn't `attrs 1`",
+            Cause::Word => "the first word begins no line of a script",
+            Cause::Place => "the first word may not stand there",
+            Cause::Form => "a wrong number of words, or an operand that isn't of its form",
+            Cause::Number => "a number that is out of its range",
+            Cause::Name => "an identifier that may not be used, or not so",
+            Cause::Class => "a class that no line declares",
+            Cause::Func => "a function that no line declares",
+            Cause::Limit => "more than a script may have",
+            Cause::End => "the input ends too early",
+            Cause::Script => "the input is no script",
+        })
+    }
+}
+
+impl Error for Cause {}
+
 /// Why a script isn't read.
 #[derive(Clone, Copy, Debug, PartialEq, Eq)]
 pub enum ReadFault {
@@ -50,3 +73,14 @@ impl From<AllocError> for ReadFault {
         ReadFault::NoMemory
     }
 }
+
+impl fmt::Display for ReadFault {
+    fn fmt<W: fmt::Write>(&self, f: &mut fmt::Formatter<W>) -> fmt::Result {
+        match self {
+            ReadFault::Refused { line, cause } => write!(f, "line {line}: {cause}"),
+            ReadFault::NoMemory => write!(f, "out of memory"),
+        }
+    }
+}
+
+impl Error for ReadFault {}

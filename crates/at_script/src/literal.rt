@@ -1,7 +1,8 @@
 //! Values as a script writes them.
 ghost use Rattle.std.specs.Prelude.{◌≡◌};
 ghost use Rattle.std.specs.Option.{option_map, option_copied};
-ghost use Rattle.at_script.specs.Literals.{written, quoted_of, function_of, property_of, wrapped_of, value_of};
+ghost use Rattle.at_script.specs.Literals.{quoted_of, function_of, property_of, wrapped_of, value_of};
+ghost use Rattle.at_script.specs.Views.{written};
 
 use crate::number::integer_of;
 use crate::pieces::{Part, Pieces};

@@ -3,7 +3,8 @@ ghost use Rattle.std.specs.Prelude.{◌≡◌, ◌∷◌, position};
 ghost use Rattle.std.specs.Option.{option_map, option_copied};
 ghost use Rattle.std.specs.Iterator.{YieldsFirstRef, item_count};
 ghost use Rattle.std.specs.List.{slice_split};
-ghost use Rattle.at_script.specs.Pieces.{is_blank, is_said, separates, keeps, kept, parts_after, pieces_left, one_part, two_parts, both_now, three_parts, all_now};
+ghost use Rattle.at_script.specs.Pieces.{is_blank, is_said, one_part, two_parts, three_parts};
+ghost use Rattle.at_script.specs.Views.{separates, counts, counted, parts_after, pieces_left, both_now, all_now};
 
 /// What the bytes are parted into.
 #[derive(Clone, Copy)]
@@ -63,9 +64,8 @@ impl Part {
         }
     }
 
-    /// Whether the part counts.
-    fn keeps(self, part: &[u8]) -> bool
-        ensures { result ≡ keeps self part.now }
+    fn counts(self, part: &[u8]) -> bool
+        ensures { result ≡ counts self part.now }
     {
         match self {
             Part::Line => is_said(part),
@@ -78,7 +78,7 @@ impl Part {
 impl<'a> Pieces<'a> {
     /// The parts of the bytes.
     pub fn new(bytes: &'a [u8], part: Part) -> Pieces<'a>
-        ensures { pieces_left result ≡ kept part (slice_split (separates part) bytes.now) }
+        ensures { pieces_left result ≡ counted part (slice_split (separates part) bytes.now) }
     {
         Pieces {
             part,
@@ -135,7 +135,7 @@ impl<'a> Iterator for Pieces<'a> {
         while let Some(bytes) = self.rest {
             let (piece, rest) = cut(bytes, self.part);
             self.rest = rest;
-            if self.part.keeps(piece) {
+            if self.part.counts(piece) {
                 return Some(piece);
             }
         }

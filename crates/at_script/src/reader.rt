@@ -3,7 +3,7 @@ ghost use Rattle.std.specs.Prelude.{◌≡◌, [], false, Some, None, IfOk, IfEr
 ghost use Rattle.std.specs.List.{list_all};
 ghost use Rattle.std.specs.Option.{option_map, option_copied};
 ghost use Rattle.at_value.specs.Widths as widths;
-ghost use Rattle.at_script.specs.Pieces.{pieces_left};
+ghost use Rattle.at_script.specs.Views.{pieces_left};
 ghost use Rattle.at_script.specs.Shapes.{declared_by};
 ghost use Rattle.at_script.specs.Faults.{IsFaultAt};
 ghost use Rattle.at_script.specs.Script.{is_allowed, is_readable, has_only, is_header, without_last_newline, lines_of, words_in, headed, func_of, after_funcs, funcs_in, with_funcs, declared_in, script_of_lines, script_of};

@@ -3,12 +3,15 @@ ghost use Rattle.std.specs.Prelude.{◌≡◌, ◌≤◌, length, slice_get};
 ghost use Rattle.std.specs.Option.{option_copied};
 ghost use Rattle.at_value.specs.Widths as widths;
 ghost use Rattle.at_script.specs.Parts.{script_with, block_of};
-ghost use Rattle.at_script.specs.Tables.{most_variables};
+ghost use Rattle.at_script.specs.Limits as limits;
 
 use crate::stmt::{Block, Stmt};
 use crate::tables::Tables;
 use at_value::{Class, Func, Name};
 use std::marker::Model;
+
+/// How many statements each thread may begin, in a script that says none.
+const USUAL_BUDGET: u32 = 10_000;
 
 /// A script: its statements, and the texts that they name by number.
 #[derive(Drop)]
@@ -20,22 +23,23 @@ pub struct Script {
 
 impl Model for Script {
     ghost use Rattle.std.specs.Prelude.{◌≤◌};
+    ghost use Rattle.at_script.specs.Limits.{most_budget};
     ghost use Rattle.at_script.specs.Parts.{ScriptParts, script_with};
 
     ghost Value = { ScriptParts };
 
     ghost view = { λ s. script_with s.budget s.main.items s.tables };
 
-    ghost invariant = { λ s. (1 ≤ s.budget) × (s.budget ≤ 100000) };
+    ghost invariant = { λ s. (1 ≤ s.budget) × (s.budget ≤ most_budget) };
 }
 
 impl Script {
     /// The script of these statements of `main`.
     pub(crate) fn of_main(main: Vec<Stmt>, tables: Tables) -> Script
-        ensures { result ≡ script_with 10000 main.items tables }
+        ensures { result ≡ script_with limits.usual_budget main.items tables }
     {
         Script {
-            budget: 10_000,
+            budget: USUAL_BUDGET,
             tables,
             main,
         }
@@ -45,7 +49,7 @@ impl Script {
     pub fn budget(&self) -> u32
         ensures same { result ≡ self.now.budget }
         ensures least { 1 ≤ result }
-        ensures most { result ≤ 100000 }
+        ensures most { result ≤ limits.most_budget }
     {
         self.budget
     }
@@ -53,7 +57,7 @@ impl Script {
     /// How many threads there are, at most 32.
     pub fn threads(&self) -> u8
         ensures same { result ≡ length self.now.threads }
-        ensures most { result ≤ 32 }
+        ensures most { result ≤ limits.most_threads }
     {
         // No script has threads yet. That follows from the fields, which the prover takes up only where one is read.
         let _ = &self.main;
@@ -136,7 +140,7 @@ impl Script {
     /// How many variables there are.
     pub fn vars(&self) -> usize
         ensures same { result ≡ length self.now.vars }
-        ensures most { result ≤ most_variables }
+        ensures most { result ≤ limits.most_variables }
     {
         self.tables.vars.len()
     }

@@ -3,9 +3,9 @@ ghost use Rattle.std.specs.Prelude.{◌≡◌, ◌<◌, ◌||◌, is_some, IfOk,
 ghost use Rattle.std.specs.Option.{option_map, option_copied};
 ghost use Rattle.at_value.specs.Widths as widths;
 ghost use Rattle.at_name.specs.Texts.{place_of};
-ghost use Rattle.at_script.specs.Literals.{written, quoted, named, static, classm, prop};
-ghost use Rattle.at_script.specs.Pieces.{pieces_left};
-ghost use Rattle.at_script.specs.Shapes.{said, class, put, cut, new, mro, set, del, get, super_read, special, classof};
+ghost use Rattle.at_script.specs.Literals.{quoted, named, static, classm, prop};
+ghost use Rattle.at_script.specs.Shapes.{class, put, cut, new, mro, set, del, get, super_read, special, classof};
+ghost use Rattle.at_script.specs.Views.{written, pieces_left, said};
 ghost use Rattle.at_script.specs.Script.{with_func};
 ghost use Rattle.at_script.specs.Tables.{opening, class_at, bases_at, func_at, variable_in, name_in, target_in, attribute_in, part_at, property_at, operand_in, given_in, statement_in};
 

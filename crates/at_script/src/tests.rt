@@ -64,6 +64,28 @@ fn assert_lines<R: Abort>(rt: &R, alloc: Global, rows: &[(&str, bool)]) -> Resul
     Ok(())
 }
 
+/// A thread may be handed a value of this type, and share it.
+fn may_cross_threads<T: Send + Sync>(_value: &T) {}
+
+#[test]
+fn a_script_may_cross_threads(rt: HostRuntime) -> Result<(), Fail> {
+    may_cross_threads(&script_of(rt.alloc(), "attrs 1\nmain\nend\n")?);
+    Ok(())
+}
+
+#[test]
+fn faults_as_text(rt: HostRuntime) -> Result<(), Fail> {
+    let refused = ReadFault::Refused {
+        line: 3,
+        cause: Cause::Byte,
+    };
+    let refused = format!(in rt.alloc(); "{refused}")?;
+    let no_memory = format!(in rt.alloc(); "{}", ReadFault::NoMemory)?;
+    assert_eq!(rt; refused.as_str(), "line 3: a byte that no script has");
+    assert_eq!(rt; no_memory.as_str(), "out of memory");
+    Ok(())
+}
+
 #[test]
 fn statements_are_small(rt: HostRuntime) {
     assert!(rt; size_of::<Stmt>() <= 28);

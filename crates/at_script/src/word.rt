@@ -9,21 +9,18 @@ use std::str;
 /// How many bytes an identifier has at most.
 const IDENTIFIER_MOST: usize = 32;
 
-/// A letter or `_`.
 fn begins_identifier(byte: u8) -> bool
     ensures { result ≡ begins_identifier byte }
 {
     byte.is_ascii_alphabetic() || byte == b'_'
 }
 
-/// A letter, a digit or `_`.
 fn continues_identifier(byte: u8) -> bool
     ensures { result ≡ continues_identifier byte }
 {
     byte.is_ascii_alphanumeric() || byte == b'_'
 }
 
-/// A letter or `_`, and then letters, digits or `_`.
 fn has_identifier_form(word: &[u8]) -> bool
     ensures { result ≡ has_identifier_form word.now }
 {

@@ -1,9 +1,9 @@
 //! A thread that executes the statements of a script, and the laws of executions.
 use crate::{Next, ReplyUse, Thread, laws};
 use at_line::{LineOp, LineReply, Local};
-use at_script::{Block, Script, Stmt, read};
+use at_script::{Block, Operand, Script, Stmt, Target, read};
 use at_value::{Bases, Class, Func, HookKind, Name, Obj, Op, Reply, Value};
-use std::alloc::{AllocError, Global};
+use std::alloc::Global;
 use std::process::Abort;
 use std::test::Fail;
 
@@ -11,10 +11,14 @@ use std::test::Fail;
 #[derive(Clone, Copy)]
 enum Told {
     Done,
-    /// An object was made, whose class has the function as `__init__`.
+    /// An object was made.
     Made,
+    /// An object was made, whose class has the function as `__init__`.
+    MadeWithInit,
     /// A hook that is an integer.
     Hook,
+    /// The section was kept.
+    Kept,
     /// A line stands in the operation's place.
     Declined,
 }
@@ -61,12 +65,14 @@ fn answer(thread: &mut Thread<'_>, demand: &Next, told: Told) {
         return;
     };
     let reply = match told {
-        Told::Done => Reply::Done,
-        Told::Made => Reply::Made(object(), Some(function())),
-        Told::Hook => hook(),
+        Told::Done => LineReply::Of(Reply::Done),
+        Told::Made => LineReply::Of(Reply::Made(object(), None)),
+        Told::MadeWithInit => LineReply::Of(Reply::Made(object(), Some(function()))),
+        Told::Hook => LineReply::Of(hook()),
+        Told::Kept => LineReply::Kept,
         Told::Declined => return thread.decline(),
     };
-    thread.accept(reply_use, &LineReply::Of(reply));
+    thread.accept(reply_use, &reply);
 }
 
 /// Compares what a thread demands next, and answers it.
@@ -90,28 +96,20 @@ fn is_bound_to_the_object(variables: &[Option<Value>]) -> bool {
     }
 }
 
-fn unbound(alloc: Global, script: &Script) -> Result<Vec<Option<Value>>, AllocError> {
-    vec![in alloc; None; script.vars()]
-}
-
 fn statements_of_main(script: &Script) -> &[Stmt] {
     script.block(Block::Main).unwrap_or(&[])
 }
 
-/// A thread at the begin of `main`.
-fn main_of(alloc: Global, script: &Script) -> Result<Thread<'_>, AllocError> {
-    let variables = unbound(alloc, script)?;
-    Thread::new(alloc, statements_of_main(script), variables)
-}
-
-/// Executes `main` with these steps, after which the first variable has the object.
+/// Executes the block with these steps, after which the first of two variables has the object.
 fn execute<R: Abort>(
     rt: &R,
     alloc: Global,
     script: &Script,
+    block: &[Stmt],
     steps: &[(Next, Told)],
 ) -> Result<(), Fail> {
-    let mut thread = main_of(alloc, script)?;
+    let unbound: Vec<Option<Value>> = vec![in alloc; None; 2]?;
+    let mut thread = Thread::new(alloc, block, unbound)?;
     for (wanted, told) in steps {
         demands(rt, &mut thread, script, wanted, *told);
     }
@@ -127,7 +125,7 @@ fn execute_text<R: Abort>(
     steps: &[(Next, Told)],
 ) -> Result<(), Fail> {
     let script = script_of(alloc, text)?;
-    execute(rt, alloc, &script, steps)
+    execute(rt, alloc, &script, statements_of_main(&script), steps)
 }
 
 /// `class C`, which is the first statement of each script here.
@@ -144,7 +142,7 @@ fn calling_steps() -> [(Next, Told); 8] {
     [
         class_is_made(),
         (asks(put, ReplyUse::Ignore), Told::Done),
-        (asks(Op::New(class()), bind), Told::Made),
+        (asks(Op::New(class()), bind), Told::MadeWithInit),
         // The function begins and ends, and then `main` ends.
         (Next::Silent, Told::Done),
         (Next::Silent, Told::Done),
@@ -167,7 +165,7 @@ fn saying_steps() -> [(Next, Told); 11] {
     let (get, del) = (Op::Get(object(), name()), Op::Del(object(), name()));
     [
         class_is_made(),
-        (asks(Op::New(class()), bind), Told::Made),
+        (asks(Op::New(class()), bind), Told::MadeWithInit),
         (Next::Silent, Told::Done),
         (Next::Silent, Told::Done),
         (Next::Says(Local::Unbound(1)), Told::Done),
@@ -183,6 +181,44 @@ fn saying_steps() -> [(Next, Told); 11] {
 #[test]
 fn lines_that_are_no_operation(rt: HostRuntime) -> Result<(), Fail> {
     execute_text(&rt, rt.alloc(), SAYING, &saying_steps())
+}
+
+const SECTION: [Stmt; 6] = [
+    Stmt::Begin(Target::Var(0), Some(Target::Var(0))),
+    Stmt::Checkpoint,
+    Stmt::Let(1, Operand::Var(0)),
+    Stmt::Finish,
+    Stmt::Finish,
+    Stmt::Return(Operand::It),
+];
+
+fn section_steps() -> [(Next, Told); 9] {
+    [
+        (
+            asks(Op::New(class()), ReplyUse::Bind(0, Value::Nothing)),
+            Told::Made,
+        ),
+        (
+            Next::Asks(LineOp::Begin(object(), None), ReplyUse::Open),
+            Told::Done,
+        ),
+        (Next::Checkpoint, Told::Done),
+        (Next::Silent, Told::Done),
+        (Next::Asks(LineOp::Finish, ReplyUse::Close), Told::Kept),
+        // Here no section is open.
+        (Next::Silent, Told::Done),
+        (Next::Silent, Told::Done),
+        (Next::Ended, Told::Done),
+        (Next::Ended, Told::Done),
+    ]
+}
+
+#[test]
+fn a_section_and_a_checkpoint(rt: HostRuntime) -> Result<(), Fail> {
+    let script = script_of(rt.alloc(), "attrs 1\nmain\nend\n")?;
+    let mut block = vec![in rt.alloc(); Stmt::New(0, class(), None); 1]?;
+    block.extend_from_slice(&SECTION)?;
+    execute(&rt, rt.alloc(), &script, &block, &section_steps())
 }
 
 #[test]

@@ -1,6 +1,6 @@
 use Rattle.std.proofs.Common.{◌∙◌, sym}
 use Rattle.std.proofs.lemmas.List.{take_rest}
-use Rattle.at_script.specs.Pieces.{separates}
+use Rattle.at_script.specs.Views.{separates}
 use Rattle.at_script.proofs.Cuts.{cut_at, cut_nowhere}
 use Rattle.at_script.proofs.pieces.cut.Goals as goal
 

@@ -1,5 +1,5 @@
 use Rattle.std.proofs.Common.{◌≡◌, false, length}
-use Rattle.at_script.specs.Pieces.{pieces_left}
+use Rattle.at_script.specs.Views.{pieces_left}
 use Rattle.at_script.specs.Script.{after_funcs}
 use Rattle.at_script.proofs.reader.after_funcs.Given as goal
 

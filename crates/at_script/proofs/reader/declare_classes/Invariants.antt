@@ -1,6 +1,6 @@
 use Rattle.std.proofs.Common.{◌≡◌}
 use Rattle.at_value.specs.Widths as widths
-use Rattle.at_script.specs.Pieces.{pieces_left}
+use Rattle.at_script.specs.Views.{pieces_left}
 use Rattle.at_name.specs.Texts.{all_interned}
 use Rattle.at_script.specs.Script.{declared_in}
 use Rattle.at_script.proofs.reader.declare_classes.Given as goal

@@ -1,5 +1,5 @@
 use Rattle.std.proofs.Common.{◌≡◌}
-use Rattle.at_script.specs.Pieces.{pieces_left}
+use Rattle.at_script.specs.Views.{pieces_left}
 use Rattle.at_script.specs.Script.{funcs_in, with_funcs}
 use Rattle.at_script.proofs.reader.declare_funcs.Given as goal
 

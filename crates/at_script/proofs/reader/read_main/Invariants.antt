@@ -1,5 +1,5 @@
 use Rattle.std.proofs.Common.{◌≡◌, length, []}
-use Rattle.at_script.specs.Pieces.{pieces_left}
+use Rattle.at_script.specs.Views.{pieces_left}
 use Rattle.at_script.specs.Reading.{main_of}
 use Rattle.at_script.proofs.reader.read_main.Given as goal
 

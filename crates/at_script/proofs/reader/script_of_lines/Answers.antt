@@ -1,5 +1,5 @@
 use Rattle.std.proofs.Common.{◌∙◌, ap, sym, cond, Some, None}
-use Rattle.at_script.specs.Pieces.{pieces_left}
+use Rattle.at_script.specs.Views.{pieces_left}
 use Rattle.at_script.specs.Literals.{◌>>=◌}
 use Rattle.at_script.specs.Script.{script_read}
 use Rattle.at_script.proofs.Blocks.{script_is, mapped_some, mapped_none}

@@ -1,5 +1,5 @@
 use Rattle.std.proofs.Common.{◌≡◌, length}
-use Rattle.at_script.specs.Pieces.{parts_after, pieces_left}
+use Rattle.at_script.specs.Views.{parts_after, pieces_left}
 use Rattle.at_script.proofs.pieces.PiecesIterator.next.Given as goal
 
 -- the parts that are left and count are those of the start

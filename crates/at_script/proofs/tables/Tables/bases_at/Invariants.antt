@@ -1,7 +1,7 @@
 use Rattle.std.proofs.Common.{◌≡◌, ◌≤◌, ◌+◌, ◌++◌, length}
 use Rattle.std.specs.Option.{option_map}
 use Rattle.at_value.specs.Widths as widths
-use Rattle.at_script.specs.Pieces.{pieces_left}
+use Rattle.at_script.specs.Views.{pieces_left}
 use Rattle.at_script.specs.Tables.{classes_at}
 use Rattle.at_script.proofs.tables.Tables.bases_at.Given as goal
 
