@@ -7,7 +7,7 @@ use Rattle.at_model.specs.declared.rows.ClassRow.{ClassRow}
 use Rattle.at_model.specs.World.{World, row_of, bases_of, order_of_row, order_within, order_of, IsMade, IsBase, IsAboveBy, IsWellFormed}
 use Rattle.at_model.specs.Laws.{AreMerges, IsAbove, IsLinearization}
 use Rattle.at_model.proofs.Subsequences.{subsequence-more, subsequence-trans, subsequence-has}
-use Rattle.at_model.proofs.Orders.{IsMadeOf, parts_of, orders_kept, order_of_row-kept, order_within-more, order_within-enough, order_length, order_begins, in_base_order, member_order, rest_order, not_again, order_is_distinct}
+use Rattle.at_model.proofs.Orders.{IsMadeOf, parts_of, orders_preserved, order_of_row-preserved, order_within-more, order_within-enough, order_length, order_begins, in_base_order, member_order, rest_order, not_again, order_is_distinct}
 
 -- Orders without a number of steps
 
@@ -32,7 +32,7 @@ orders_are_merges w c = one_step_more (suc (length w.classes)) w.classes c (omeg
 solved : (w : World) (f : ℕ → Option (List ℕ)) → AreMerges w f → (n c : ℕ) (order : List ℕ) → order_within n w.classes c ≡ Some order → f c ≡ Some order
 solved w f are zero c order is = cc
 solved w f are (suc n) c order is =
-    are c ∙ order_of_row-kept (order_within n w.classes) f c (row_of w.classes c) order is (λ b p at _. solved w f are n b p at)
+    are c ∙ order_of_row-preserved (order_within n w.classes) f c (row_of w.classes c) order is (λ b p at _. solved w f are n b p at)
 
 pub orders_are_unique : (w : World) (f : ℕ → Option (List ℕ)) → IsWellFormed w → AreMerges w f → (c : ℕ) → f c ≡ order_of w c
 orders_are_unique w f formed are c =
@@ -74,8 +74,8 @@ above_stands zero w a c order made above = absurd above
 above_stands (suc k) w a c order made above =
     let n = length w.classes in
     let b = above.0 in
-    let kept = (orders_kept made.orders made.row.bases made.rest made.merged).1 in
-    let base : has b made.rest ≡ true = subsequence-has b made.row.bases made.rest kept (has-from_base w b c made.row made.at above.1) in
+    let preserved = (orders_preserved made.orders made.row.bases made.rest made.merged).1 in
+    let base : has b made.rest ≡ true = subsequence-has b made.row.bases made.rest preserved (has-from_base w b c made.row made.at above.1) in
     elim above.2 [
       | inl same ↦ subst (λ x. has x made.rest ≡ true) (sym same) base
       | inr higher ↦
@@ -103,8 +103,8 @@ acyclic-from_ordered w ordered (suc n) c above =
 bases_in_order : (w : World) (c : ℕ) (order : List ℕ) → order_of w c ≡ Some order → IsSubsequence (bases_of (row_of w.classes c)) order
 bases_in_order w c order is =
     let made = parts_of (order_within (length w.classes) w.classes) c (row_of w.classes c) order is in
-    let kept = subsequence-more made.row.bases c made.rest (orders_kept made.orders made.row.bases made.rest made.merged).1 in
-    subst (λ bases. IsSubsequence bases order) (sym (ap bases_of made.at)) (subst (IsSubsequence made.row.bases) (sym made.whole) kept)
+    let preserved = subsequence-more made.row.bases c made.rest (orders_preserved made.orders made.row.bases made.rest made.merged).1 in
+    subst (λ bases. IsSubsequence bases order) (sym (ap bases_of made.at)) (subst (IsSubsequence made.row.bases) (sym made.whole) preserved)
 
 pub orders_are_linearizations : (w : World) (c : ℕ) (order : List ℕ) → order_of w c ≡ Some order → IsLinearization w c order
 orders_are_linearizations w c order is =
@@ -123,8 +123,8 @@ orders_are_linearizations w c order is =
             ]),
       );
       once = order_is_distinct n w.classes c order is;
-      bases_kept = λ a at.
+      bases_preserved = λ a at.
           let found = member_order n w.classes c a order is (has-from_Contains a order at) in
           subsequence-trans (bases_of (row_of w.classes a)) found.0 order (bases_in_order w a found.0 found.1) found.2;
-      orders_kept = λ a at. member_order n w.classes c a order is (has-from_Contains a order at);
+      orders_preserved = λ a at. member_order n w.classes c a order is (has-from_Contains a order at);
     }

@@ -46,12 +46,12 @@ all-from_have f (b ∷ bases) [] have = absurd have
 all-from_have f (b ∷ bases) (order ∷ orders) have =
     ap (λ r. all_orders (r ∷ map f bases)) have.0 ∙ ap (order_before order) (all-from_have f bases orders have.1)
 
-have-kept : (f g : ℕ → Option (List ℕ)) (P : List ℕ → Type 0) → ((b : ℕ) (order : List ℕ) → f b ≡ Some order → P order → g b ≡ Some order)
+have-preserved : (f g : ℕ → Option (List ℕ)) (P : List ℕ → Type 0) → ((b : ℕ) (order : List ℕ) → f b ≡ Some order → P order → g b ≡ Some order)
     → (bases : List ℕ) (orders : List (List ℕ)) → HaveOrders f bases orders → AllByRecursion P orders → HaveOrders g bases orders
-have-kept f g P kept [] [] have all = tt
-have-kept f g P kept [] (order ∷ orders) have all = absurd have
-have-kept f g P kept (b ∷ bases) [] have all = absurd have
-have-kept f g P kept (b ∷ bases) (order ∷ orders) have all = (kept b order have.0 all.0, have-kept f g P kept bases orders have.1 all.1)
+have-preserved f g P preserved [] [] have all = tt
+have-preserved f g P preserved [] (order ∷ orders) have all = absurd have
+have-preserved f g P preserved (b ∷ bases) [] have all = absurd have
+have-preserved f g P preserved (b ∷ bases) (order ∷ orders) have all = (preserved b order have.0 all.0, have-preserved f g P preserved bases orders have.1 all.1)
 
 -- the parts of an order: the row of its class, the orders of the bases, and their merge with the list of bases
 pub record IsMadeOf (f : ℕ → Option (List ℕ)) (c : ℕ) (row_there : Option ClassRow) (order : List ℕ) : Type 0 where
@@ -86,38 +86,38 @@ all-append : (P : List ℕ → Type 0) (xs ys : List (List ℕ)) → AllByRecurs
 all-append P [] ys all = (tt, all)
 all-append P (x ∷ xs) ys all = let rest = all-append P xs ys all.1 in ((all.0, rest.0), rest.1)
 
--- the merge keeps the order of each base's order, and of the list of bases
-pub orders_kept : (orders : List (List ℕ)) (bases rest : List ℕ) → merge_of (orders ++ bases ∷ []) ≡ Some rest
+-- the merge preserves the order of each base's order, and of the list of bases
+pub orders_preserved : (orders : List (List ℕ)) (bases rest : List ℕ) → merge_of (orders ++ bases ∷ []) ≡ Some rest
     → AllByRecursion (λ order. IsSubsequence order rest) orders × IsSubsequence bases rest
-orders_kept orders bases rest merged =
+orders_preserved orders bases rest merged =
     let both = all-append (λ order. IsSubsequence order rest) orders (bases ∷ []) (run_keeps_orders rest (orders ++ bases ∷ []) (run_from_merge rest (orders ++ bases ∷ []) merged)) in
     (both.0, both.1.0)
 
 -- What leaves an order as it is
 
 -- the orders of bases that are parts of the order decide, and they are shorter
-pub order_of_row-kept_parts : (f g : ℕ → Option (List ℕ)) (c : ℕ) (row_there : Option ClassRow) (order : List ℕ) → order_of_row f c row_there ≡ Some order
+pub order_of_row-preserved_parts : (f g : ℕ → Option (List ℕ)) (c : ℕ) (row_there : Option ClassRow) (order : List ℕ) → order_of_row f c row_there ≡ Some order
     → ((b : ℕ) (p : List ℕ) → f b ≡ Some p → IsSubsequence p order → length p < length order → g b ≡ Some p) → order_of_row g c row_there ≡ Some order
-order_of_row-kept_parts f g c row_there order is kept =
+order_of_row-preserved_parts f g c row_there order is preserved =
     let made = parts_of f c row_there order is in
     let longer : length order ≡ suc (length made.rest) = ap length made.whole in
     let part_of : (p : List ℕ) → IsSubsequence p made.rest → IsSubsequence p order = λ p part. subst (IsSubsequence p) (sym made.whole) (subsequence-more p c made.rest part) in
     let shorter : (p : List ℕ) → IsSubsequence p made.rest → length p < length order = λ p part. omega (arith, longer, subsequence-length p made.rest part) in
-    let keeps : (b : ℕ) (p : List ℕ) → f b ≡ Some p → IsSubsequence p made.rest → g b ≡ Some p = λ b p at part. kept b p at (part_of p part) (shorter p part) in
+    let preserves : (b : ℕ) (p : List ℕ) → f b ≡ Some p → IsSubsequence p made.rest → g b ≡ Some p = λ b p at part. preserved b p at (part_of p part) (shorter p part) in
     whole_of g c row_there order (record {
       row = made.row;
       orders = made.orders;
       rest = made.rest;
       at = made.at;
-      have = have-kept f g (λ p. IsSubsequence p made.rest) keeps made.row.bases made.orders made.have (orders_kept made.orders made.row.bases made.rest made.merged).0;
+      have = have-preserved f g (λ p. IsSubsequence p made.rest) preserves made.row.bases made.orders made.have (orders_preserved made.orders made.row.bases made.rest made.merged).0;
       merged = made.merged;
       whole = made.whole;
     })
 
 -- the orders of bases that are shorter decide
-pub order_of_row-kept : (f g : ℕ → Option (List ℕ)) (c : ℕ) (row_there : Option ClassRow) (order : List ℕ) → order_of_row f c row_there ≡ Some order
+pub order_of_row-preserved : (f g : ℕ → Option (List ℕ)) (c : ℕ) (row_there : Option ClassRow) (order : List ℕ) → order_of_row f c row_there ≡ Some order
     → ((b : ℕ) (p : List ℕ) → f b ≡ Some p → length p < length order → g b ≡ Some p) → order_of_row g c row_there ≡ Some order
-order_of_row-kept f g c row_there order is kept = order_of_row-kept_parts f g c row_there order is (λ b p at _ shorter. kept b p at shorter)
+order_of_row-preserved f g c row_there order is preserved = order_of_row-preserved_parts f g c row_there order is (λ b p at _ shorter. preserved b p at shorter)
 
 -- more steps than are enough change nothing
 pub order_within-more : (n m : ℕ) (classes : List (Option ClassRow)) (c : ℕ) (order : List ℕ) → order_within n classes c ≡ Some order
@@ -125,7 +125,7 @@ pub order_within-more : (n m : ℕ) (classes : List (Option ClassRow)) (c : ℕ)
 order_within-more zero m classes c order is le = cc
 order_within-more (suc n) zero classes c order is le = absurd (omega arith)
 order_within-more (suc n) (suc m) classes c order is le =
-    order_of_row-kept (order_within n classes) (order_within m classes) c (row_of classes c) order is (λ b p at _. order_within-more n m classes b p at (omega arith))
+    order_of_row-preserved (order_within n classes) (order_within m classes) c (row_of classes c) order is (λ b p at _. order_within-more n m classes b p at (omega arith))
 
 -- as many steps as the order has classes are enough
 pub order_within-enough : (n m : ℕ) (classes : List (Option ClassRow)) (c : ℕ) (order : List ℕ) → order_within n classes c ≡ Some order
@@ -134,7 +134,7 @@ order_within-enough zero m classes c order is le = cc
 order_within-enough (suc n) zero classes c order is le =
     let longer = ap length (parts_of (order_within n classes) c (row_of classes c) order is).whole in absurd (omega (arith, longer))
 order_within-enough (suc n) (suc m) classes c order is le =
-    order_of_row-kept (order_within n classes) (order_within m classes) c (row_of classes c) order is (λ b p at shorter. order_within-enough n m classes b p at (omega arith))
+    order_of_row-preserved (order_within n classes) (order_within m classes) c (row_of classes c) order is (λ b p at shorter. order_within-enough n m classes b p at (omega arith))
 
 bases_decide : (f : ℕ → Option (List ℕ)) (c : ℕ) (r s : Option ClassRow) → option_map (λ row. row.bases) r ≡ option_map (λ row. row.bases) s
     → order_of_row f c r ≡ order_of_row f c s
@@ -185,7 +185,7 @@ order_within-fresh (suc n) classes c d row order none is =
     let made = made-from_order (suc n) classes d order is in
     let other : d ≢ c = λ e. not_made classes c none (subst (λ x. IsTrue (is_some (row_of classes x))) e made) in
     ap (order_of_row (order_within n (set classes c row)) d) (get_or-set_other classes c d row None other)
-    ∙ order_of_row-kept (order_within n classes) (order_within n (set classes c row)) d (row_of classes d) order is (λ b p at _. order_within-fresh n classes c b row p none at)
+    ∙ order_of_row-preserved (order_within n classes) (order_within n (set classes c row)) d (row_of classes d) order is (λ b p at _. order_within-fresh n classes c b row p none at)
 
 pub order_in-fresh : (classes : List (Option ClassRow)) (c d : ℕ) (row : Option ClassRow) (order : List ℕ) → row_of classes c ≡ None
     → order_in classes d ≡ Some order → order_in (set classes c row) d ≡ Some order
@@ -248,15 +248,15 @@ in_some_order n classes d bases orders have somewhere =
           ]
     ]
 
--- A class after the first stands in the order of a base, and that order is kept.
+-- A class after the first stands in the order of a base, and that order is preserved.
 pub in_base_order : (n : ℕ) (classes : List (Option ClassRow)) (c d : ℕ) (order : List ℕ) (made : IsMadeOf (order_within n classes) c (row_of classes c) order) → has d made.rest ≡ true
     → (b : ℕ) × (p : List ℕ) × (has b made.row.bases ≡ true) × (order_within n classes b ≡ Some p) × IsSubsequence p made.rest × (has d p ≡ true)
 in_base_order n classes c d order made at =
     let lists = made.orders ++ made.row.bases ∷ [] in
     let somewhere : list_any (has d) lists ≡ true = sym (has-run d made.rest lists (run_from_merge made.rest lists made.merged)) ∙ at in
-    let kept = orders_kept made.orders made.row.bases made.rest made.merged in
+    let preserved = orders_preserved made.orders made.row.bases made.rest made.merged in
     let there = in_some_order n classes d made.row.bases made.orders made.have somewhere in
-    stands_above (order_within n classes) (λ p. IsSubsequence p made.rest) d made.row.bases made.orders made.have kept.0 there
+    stands_above (order_within n classes) (λ p. IsSubsequence p made.rest) d made.row.bases made.orders made.have preserved.0 there
 
 -- Each class of an order has an order itself, which is a part of that order.
 pub member_order : (n : ℕ) (classes : List (Option ClassRow)) (c d : ℕ) (order : List ℕ) → order_within n classes c ≡ Some order → has d order ≡ true

@@ -1,4 +1,4 @@
--- Orders that are kept beside their classes, the order of a class that is made, and the first class without an order.
+-- Orders that are stored beside their classes, the order of a class that is made, and the first class without an order.
 use Rattle.std.proofs.Common.{◌≡◌, ◌≢◌, ◌∙◌, ap, sym, refl, ℕ, zero, suc, ◌+◌, ◌<◌, ◌&&◌, inl, inr, cond, length, get_or, set, List, [], ◌∷◌, map, Option, Some, None, Bool, true, false, is_some, is_none, IsTrue, arith}
 use Rattle.std.specs.List.{list_all}
 use Rattle.std.specs.Option.{option_map}
@@ -21,13 +21,13 @@ have-from_made f orders is_made each (b ∷ bases) all =
     (each b both.0, have-from_made f orders is_made each bases both.1)
 
 -- the orders of the classes that were made, after one more is
-others-kept : (classes : List (Option ClassRow)) (c b : ℕ) (row : Option ClassRow) (order : List ℕ) → row_of classes c ≡ None
+others-preserved : (classes : List (Option ClassRow)) (c b : ℕ) (row : Option ClassRow) (order : List ℕ) → row_of classes c ≡ None
     → order_in classes b ≡ Some order → order_within (length (set classes c row)) (set classes c row) b ≡ Some order
-others-kept classes c b row order free is =
+others-preserved classes c b row order free is =
     ap (λ n. order_within n (set classes c row) b) (length-set classes c row)
     ∙ order_within-fresh (length classes) classes c b row order free (order_in-with_room classes b order is)
 
--- the order of a class that is made now, from the orders that are kept of its bases
+-- the order of a class that is made now, from the stored orders of its bases
 pub defined_order : (classes : List (Option ClassRow)) (orders : List (List ℕ)) (c : ℕ) (row : ClassRow) → AreOrders classes orders
     → row_of classes c ≡ None → c < length classes
     → IsTrue (list_all (λ b. is_some (row_of classes b)) row.bases)
@@ -35,13 +35,13 @@ pub defined_order : (classes : List (Option ClassRow)) (orders : List (List ℕ)
 defined_order classes orders c row are free below made =
     let changed = set classes c (Some row) in
     let f : ℕ → Option (List ℕ) = order_within (length changed) changed in
-    let have = have-from_made f orders (λ b. is_some (row_of classes b)) (λ b is. others-kept classes c b (Some row) (get_or orders b []) free (are b is)) row.bases made in
+    let have = have-from_made f orders (λ b. is_some (row_of classes b)) (λ b is. others-preserved classes c b (Some row) (get_or orders b []) free (are b is)) row.bases made in
     ap (order_of_row f c) (get_or-set_same classes c (Some row) None below)
     ∙ ap (merged_order c row.bases) (all-from_have f row.bases (map (λ b. get_or orders b []) row.bases) have)
 
--- Kept orders
+-- Stored orders
 
--- they are kept where a class is made and its order is put beside it
+-- they are right where a class is made and its order is put beside it
 pub AreOrders-defined : (classes : List (Option ClassRow)) (orders : List (List ℕ)) (c : ℕ) (row : ClassRow) (order : List ℕ)
     → AreOrders classes orders → row_of classes c ≡ None → c < length classes → c < length orders
     → order_in (set classes c (Some row)) c ≡ Some order → AreOrders (set classes c (Some row)) (set orders c order)
@@ -61,7 +61,7 @@ is_some-from_bases None (Some s) same = cc
 is_some-from_bases (Some r) None same = cc
 is_some-from_bases (Some r) (Some s) same = refl
 
--- they are kept where no class changes its bases
+-- they are right where no class changes its bases
 pub AreOrders-same_bases : (cs ds : List (Option ClassRow)) (orders : List (List ℕ)) → HaveSameBases cs ds → length cs ≡ length ds
     → AreOrders cs orders → AreOrders ds orders
 AreOrders-same_bases cs ds orders same long are c made =

@@ -1,4 +1,4 @@
--- Parts of a list that keep its order.
+-- Parts of a list in its order.
 use Rattle.std.proofs.Common.{◌≡◌, ◌∙◌, refl, subst, ℕ, ◌≤◌, ◌==◌, inl, inr, length, List, [], ◌∷◌, true, arith}
 use Rattle.std.proofs.lemmas.Bool.{or_cases, or_left, or_right, false≢true}
 use Rattle.at_c3.specs.Laws.{IsSubsequence}

@@ -175,7 +175,7 @@ first_order : (c : ℕ) → IsMade opening c → (order : List ℕ) × (order_of
 first_order zero made = (0 ∷ [], refl)
 first_order (suc c) made = absurd (false≢true (sym (ap is_some (none_else c)) ∙ made))
 
--- the order of `object` alone is kept
+-- the order of `object` alone is stored
 pub AreOrders-opening : (orders : List (List ℕ)) → get_or orders 0 [] ≡ 0 ∷ [] → AreOrders opening.classes orders
 AreOrders-opening orders is zero made = sym (ap (λ o. Some o) is)
 AreOrders-opening orders is (suc c) made = absurd (false≢true (sym (ap is_some (none_else c)) ∙ made))

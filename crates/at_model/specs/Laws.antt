@@ -28,14 +28,14 @@ OrdersAreUnique = (w : World) (order : ℕ → Option (List ℕ)) → IsWellForm
 abbrev pub IsAbove : World → ℕ → ℕ → Type 0
 IsAbove w a c = (n : ℕ) × IsAboveBy n w a c
 
--- The order begins with class c. It has c and the classes above it, and no other, each once. It keeps the order in which
+-- The order begins with class c. It has c and the classes above it, and no other, each once. It preserves the order in which
 -- each of its classes lists its bases (local precedence), and the order of each of its classes (monotonicity).
 pub record IsLinearization (w : World) (c : ℕ) (order : List ℕ) : Type 0 where
   pub first : (rest : List ℕ) × (order ≡ c ∷ rest)
   pub members : (a : ℕ) → Contains order a ↔ ((a ≡ c) ⊎ IsAbove w a c)
   pub once : IsDistinct nat_eq order
-  pub bases_kept : (a : ℕ) → Contains order a → IsSubsequence (bases_of (row_of w.classes a)) order
-  pub orders_kept : (a : ℕ) → Contains order a → (inner : List ℕ) × (order_of w a ≡ Some inner) × IsSubsequence inner order
+  pub bases_preserved : (a : ℕ) → Contains order a → IsSubsequence (bases_of (row_of w.classes a)) order
+  pub orders_preserved : (a : ℕ) → Contains order a → (inner : List ℕ) × (order_of w a ≡ Some inner) × IsSubsequence inner order
 
 abbrev pub OrdersAreLinearizations : Type 0
 OrdersAreLinearizations = (w : World) (c : ℕ) (order : List ℕ) → order_of w c ≡ Some order → IsLinearization w c order

@@ -23,7 +23,7 @@ pub record World : Type 0 where
   pub objects : List Object
   pub dicts : List Map
 
--- what is kept of a class, where it is made
+-- what a world has of a class, where it is made
 abbrev pub row_of : List (Option ClassRow) → ℕ → Option ClassRow
 row_of classes c = slice_index_or classes c None
 
@@ -65,7 +65,7 @@ order_of w c = order_in w.classes c
 
 -- Finding a name
 
--- what is kept of a class, and no base and no name where it isn't made
+-- what a world has of a class, and no base and no name where it isn't made
 abbrev pub row_or_empty : Option ClassRow → ClassRow
 row_or_empty None = record { bases = []; own = [] }
 row_or_empty (Some row) = row

@@ -3,7 +3,7 @@ ghost use Rattle.at_model.specs.Laws.{OrdersAreMerges, OrdersAreUnique, OrdersAr
 
 /// The order of a class is the class, and then the merge of the orders of its bases and of the list of its bases; in a
 /// well-formed world no other orders are so. An order begins with its class. It has the class and the classes above it,
-/// and no other, each once. It keeps the order in which each of its classes lists its bases (local precedence), and the
+/// and no other, each once. It preserves the order in which each of its classes lists its bases (local precedence), and the
 /// order of each of its classes (monotonicity): the properties of a linearization in Barrett and others, "A Monotonic
 /// Superclass Linearization for Dylan" (1996).
 pub fn order_laws()

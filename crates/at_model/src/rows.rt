@@ -1,4 +1,4 @@
-//! What a world keeps of a class and of an object.
+//! What a world has of a class and of an object.
 use at_value::{Bases, Class, Obj, Pairs};
 
 /// A class that is made: its bases in order, and its own names.

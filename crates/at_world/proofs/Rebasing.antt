@@ -14,15 +14,15 @@ use Rattle.at_model.specs.StoredOrders.{AreOrders}
 use Rattle.at_world.specs.Plain.{order_or_none, order_by}
 use Rattle.at_world.specs.Rebasing.{IsNewOrder, AreNewOrders, AreRenewed, due_row}
 use Rattle.at_model.proofs.Subsequences.{subsequence-length, subsequence-has}
-use Rattle.at_model.proofs.Orders.{parts_of, orders_kept, order_of_row-kept_parts, order_within-more, made-from_order, not_made, order_begins, has_own_class, rest_order, made_below}
+use Rattle.at_model.proofs.Orders.{parts_of, orders_preserved, order_of_row-preserved_parts, order_within-more, made-from_order, not_made, order_begins, has_own_class, rest_order, made_below}
 use Rattle.at_model.proofs.OrderLaws.{orders_are_merges}
 
 -- Stored orders
 
 -- such an order isn't empty
-pub kept_order-there : (classes : List (Option ClassRow)) (orders : List (List ℕ)) (d : ℕ) → AreOrders classes orders → IsTrue (is_some (row_of classes d))
+pub stored_order-there : (classes : List (Option ClassRow)) (orders : List (List ℕ)) (d : ℕ) → AreOrders classes orders → IsTrue (is_some (row_of classes d))
     → order_or_none (get_or orders d []) ≡ Some (get_or orders d [])
-kept_order-there classes orders d are made =
+stored_order-there classes orders d are made =
     let begins = order_begins (suc (length classes)) classes d (get_or orders d []) (are d made) in
     ap order_or_none begins.1 ∙ ap (λ o. Some o) (sym begins.1)
 
@@ -34,7 +34,7 @@ base_is_shorter classes orders d b row are at base =
     let made = parts_of (order_within n classes) d (row_of classes d) (get_or orders d []) (are d (ap is_some at)) in
     let same : Some made.row ≡ Some row = sym made.at ∙ at in
     let is_row : made.row ≡ row = cc in
-    let in_order = (orders_kept made.orders made.row.bases made.rest made.merged).1 in
+    let in_order = (orders_preserved made.orders made.row.bases made.rest made.merged).1 in
     let in_rest : has b made.rest ≡ true = subsequence-has b made.row.bases made.rest in_order (ap (λ (r : ClassRow). has b r.bases) is_row ∙ base) in
     let found = rest_order n classes d b (get_or orders d []) made in_rest in
     let there : IsTrue (is_some (row_of classes b)) = made-from_order n classes b found.0 found.1 in
@@ -51,7 +51,7 @@ order_within-apart (suc n) classes c d row order is apart =
     let other : d ≢ c = λ e. false≢true (sym apart ∙ ap (λ x. has x order) (sym e) ∙ has_own_class (suc n) classes d order is) in
     let still : (p : List ℕ) → IsSubsequence p order → has c p ≡ false = λ p part. false_from_ne_true (has c p) (λ at. false≢true (sym apart ∙ subsequence-has c p order part at)) in
     ap (order_of_row (order_within n (set classes c row)) d) (get_or-set_other classes c d row None other)
-    ∙ order_of_row-kept_parts (order_within n classes) (order_within n (set classes c row)) d (row_of classes d) order is (λ b p at part _. order_within-apart n classes c b row p at (still p part))
+    ∙ order_of_row-preserved_parts (order_within n classes) (order_within n (set classes c row)) d (row_of classes d) order is (λ b p at part _. order_within-apart n classes c b row p at (still p part))
 
 -- they keep their orders
 pub order_in-apart : (classes : List (Option ClassRow)) (orders : List (List ℕ)) (c d : ℕ) (row : Option ClassRow) → AreOrders classes orders
@@ -59,7 +59,7 @@ pub order_in-apart : (classes : List (Option ClassRow)) (orders : List (List ℕ
 order_in-apart classes orders c d row are made apart =
     ap (λ n. order_within (suc n) (set classes c row) d) (length-set classes c row)
     ∙ order_within-apart (suc (length classes)) classes c d row (get_or orders d []) (are d made) apart
-    ∙ sym (kept_order-there classes orders d are made)
+    ∙ sym (stored_order-there classes orders d are made)
 
 -- Orders by the lists of the bases
 
