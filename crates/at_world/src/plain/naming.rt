@@ -20,7 +20,12 @@ impl Plain {
             | Op::Super(_, o, _)
             | Op::Special(o, _)
             | Op::ClassOf(o) => self.has_object(*o),
-            _ => true,
+            Op::NewClass(_, _)
+            | Op::TypeDel(_, _)
+            | Op::SetBases(_, _)
+            | Op::New(_)
+            | Op::TypeGet(_, _)
+            | Op::Mro(_) => true,
         }
     }
 
@@ -35,7 +40,14 @@ impl Plain {
     {
         match v {
             Value::Obj(o) => self.has_object(*o),
-            _ => true,
+            Value::Nothing
+            | Value::Int(_)
+            | Value::Text(_)
+            | Value::Func(_)
+            | Value::Prop(_)
+            | Value::Static(_)
+            | Value::ClassM(_)
+            | Value::Class(_) => true,
         }
     }
 
@@ -54,7 +66,8 @@ impl Plain {
             | Op::TypeGet(c, _)
             | Op::Super(c, _, _)
             | Op::Mro(c) => self.has_class(*c),
-            _ => true,
+            Op::Del(_, _) | Op::Share(_, _) | Op::Get(_, _) | Op::Special(_, _) | Op::ClassOf(_) =>
+                true,
         }
     }
 
@@ -75,7 +88,14 @@ impl Plain {
     {
         match v {
             Value::Class(c) => self.has_class(*c),
-            _ => true,
+            Value::Nothing
+            | Value::Int(_)
+            | Value::Text(_)
+            | Value::Func(_)
+            | Value::Prop(_)
+            | Value::Static(_)
+            | Value::ClassM(_)
+            | Value::Obj(_) => true,
         }
     }
 }
