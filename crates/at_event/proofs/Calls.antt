@@ -39,14 +39,12 @@ read_is_call opened events said s v operation way before run (live, reads) is =
       has_read s.history before,
       changed_view s v (has_read s.history) before is,
       record {
-        birth = refl;
-        more = known.1;
+        later = record { birth = refl; more = known.1 };
         late = prefix_length before.seen s.history known.1;
         write = λ writes. absurd (true≢false (sym writes ∙ reads));
         read = λ _. record {
           seen = omega arith;
-          replied = ap (λ w. (step w operation).reply) (sym whole);
-          no_write = ap (λ w. is_write w operation) whole ∙ reads;
+          is_so = record { replied = ap (λ w. (step w operation).reply) (sym whole); no_write = ap (λ w. is_write w operation) whole ∙ reads };
           own = refl;
         };
       },
@@ -64,8 +62,7 @@ write_is_call opened events said s v operation way before run (live, writes) is 
       has_written history before,
       changed_view s v (has_written history) before is,
       record {
-        birth = refl;
-        more = (known.1.0 ++ operation ∷ [], ap (λ xs. xs ++ operation ∷ []) known.1.1 ∙ append_assoc before.seen known.1.0 (operation ∷ []));
+        later = record { birth = refl; more = (known.1.0 ++ operation ∷ [], ap (λ xs. xs ++ operation ∷ []) known.1.1 ∙ append_assoc before.seen known.1.0 (operation ∷ [])) };
         late = omega arith;
         write = λ _. record {
           past = omega arith;

@@ -45,7 +45,7 @@ local_kept : (thread : ℕ) (w : what.What) → has_place w ≡ false → IsKept
 local_kept thread (whats.Did place way operation reply) is = absurd (true≢false is)
 local_kept thread (whats.Local local) is = tt
 
-pub one_view_linearized : (opened : World) (limits : Limits) (lines : List Line) (history : List op.Op) → IsOneViewRun opened lines history → (linearized : IsLinearized opened limits lines) × (linearized.history ≡ history)
+pub one_view_linearized : (opened : World) (limits : Limits) (lines : List Line) (history : List op.Op) → IsOneViewRun opened lines history → IsLinearized opened limits history lines
 one_view_linearized opened limits lines history one =
     let serial : IsSerial opened [] (map what_of lines) history = subst (λ last. IsSerial opened [] (map what_of lines) last) one.leads (placed_serial opened lines [] one.last.history (lines_are_serial opened first_state one.last one.events one.said (placed lines) one.run one.lines_are)) in
     let says = lines_say one.said (placed lines) one.lines_are (run_says opened one.events first_state one.last one.said one.run) in

@@ -22,19 +22,27 @@ pub record IsWriteAt (opened : World) (before : HistoryView) (operation : op.Op)
   pub replied : said ≡ (step (world_before opened now.seen place) operation).reply
   pub own : now.own ≡ before.own ++ place ∷ []
 
--- A read at a place: the view has seen so much, the reply is that of the data model after the writes up to the place, the
--- operation is no write there, and the view's own places are as they were.
-pub record IsReadAt (opened : World) (before : HistoryView) (operation : op.Op) (place : ℕ) (said : reply.Reply) (now : HistoryView) : Type 0 where
+-- an operation that is no write has this reply at a world
+pub record IsRead (operation : op.Op) (said : reply.Reply) (w : World) : Type 0 where
+  pub replied : said ≡ (step w operation).reply
+  pub no_write : is_write w operation ≡ false
+
+-- A read at a place of what is so of a world: the view has seen so much, it is so after the writes up to the place, and the
+-- view's own places are as they were.
+pub record IsReadAt (opened : World) (before : HistoryView) (place : ℕ) (IsSo : World → Type 0) (now : HistoryView) : Type 0 where
   pub seen : place ≤ length now.seen
-  pub replied : said ≡ (step (world_at opened now.seen place) operation).reply
-  pub no_write : is_write (world_at opened now.seen place) operation ≡ false
+  pub is_so : IsSo (world_at opened now.seen place)
   pub own : now.own ≡ before.own
 
--- The call was done at the place of its answer. The view has its birth number, and has seen more than before or the same; the
--- place is no earlier than what it had seen, and the history is the part that it has seen now.
-pub record IsCall (opened : World) (before : HistoryView) (operation : op.Op) (answer : Answer) (now : HistoryView) : Type 0 where
+-- the view has its birth number, and has seen more than before or the same
+pub record IsLater (before now : HistoryView) : Type 0 where
   pub birth : now.birth ≡ before.birth
   pub more : IsPrefix before.seen now.seen
+
+-- The call was done at the place of its answer. The view has gone on, the place is no earlier than what it had seen, and the
+-- history is the part that it has seen now.
+pub record IsCall (opened : World) (before : HistoryView) (operation : op.Op) (answer : Answer) (now : HistoryView) : Type 0 where
+  pub later : IsLater before now
   pub late : length before.seen ≤ answer.place.0
   pub write : IsTrue (is_done answer.reply) → IsWriteAt opened before operation answer.place.0 answer.reply now
-  pub read : is_done answer.reply ≡ false → IsReadAt opened before operation answer.place.0 answer.reply now
+  pub read : is_done answer.reply ≡ false → IsReadAt opened before answer.place.0 (IsRead operation answer.reply) now

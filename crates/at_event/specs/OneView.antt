@@ -45,7 +45,7 @@ pub record IsOneViewRun (opened : World) (lines : List Line) (history : List op.
 abbrev pub OneViewRunsAreLinearized : Type 0
 OneViewRunsAreLinearized =
     (opened : World) (limits : Limits) (lines : List Line) (history : List op.Op) → IsOneViewRun opened lines history
-    → (linearized : IsLinearized opened limits lines) × (linearized.history ≡ history)
+    → IsLinearized opened limits history lines
 
 -- what lines say of operations of the data model, as the first view's; the begin and the end of a section are no such
 -- operations

@@ -10,7 +10,7 @@ use Rattle.at_line.specs.declared.line.LineReply.TheVariants as line_replies
 use Rattle.at_line.specs.declared.line.What as what
 use Rattle.at_line.specs.declared.line.What.TheVariants as whats
 use Rattle.at_model.specs.World.{World}
-use Rattle.at_line.specs.Lines.{write_in, IsHistory}
+use Rattle.at_line.specs.Lines.{write_in}
 use Rattle.at_line.specs.Kept.{Section, whats_of_thread, writes_beside, open_sections, LeavesAlone, IsLeftAlone, IsKeptEnd, IsKept}
 
 abbrev OfThread : ℕ → Line → Type 0
@@ -35,14 +35,10 @@ kept_end opened history sections (whats.Did place path line_ops.Finish line_repl
 kept_end opened history sections (whats.Did place path line_ops.Finish (line_replies.Suspended times)) = tt
 kept_end opened history sections (whats.Local local) = tt
 
-pub one_thread_kept : (opened : World) (thread : ℕ) (lines : List Line) (history : List op.Op) → All (λ (line : Line). line.thread ≡ thread) lines → IsHistory lines history → IsKept opened lines
-one_thread_kept opened thread lines history all places = record {
-  history = history;
-  places = places;
-  left_alone = λ i line at.
-      let within : i < length lines = slice_get_within lines i line at in
-      let is : line.thread ≡ thread = subst (OfThread thread) (get_or_from_slice_get lines i line line at) (All-get_or (OfThread thread) lines i line within all) in
-      let none : writes_beside line.thread lines ≡ [] = ap (λ (t : ℕ). writes_beside t lines) is ∙ none_beside thread lines all in
-      let sections : List Section = open_sections [] (whats_of_thread line.thread (take i lines)) in
-      subst (λ ws. IsKeptEnd opened history ws sections line.what) (sym none) (kept_end opened history sections line.what);
-}
+pub one_thread_kept : (opened : World) (thread : ℕ) (lines : List Line) (history : List op.Op) → All (λ (line : Line). line.thread ≡ thread) lines → IsKept opened history lines
+one_thread_kept opened thread lines history all i line at =
+    let within : i < length lines = slice_get_within lines i line at in
+    let is : line.thread ≡ thread = subst (OfThread thread) (get_or_from_slice_get lines i line line at) (All-get_or (OfThread thread) lines i line within all) in
+    let none : writes_beside line.thread lines ≡ [] = ap (λ (t : ℕ). writes_beside t lines) is ∙ none_beside thread lines all in
+    let sections : List Section = open_sections [] (whats_of_thread line.thread (take i lines)) in
+    subst (λ ws. IsKeptEnd opened history ws sections line.what) (sym none) (kept_end opened history sections line.what)

@@ -225,16 +225,16 @@ write_from count before line placed = in_line line.what placed
 one_thread_rising : (thread : ℕ) (lines : List Line) → All (λ (line : Line). line.thread ≡ thread) lines → AllPairs IsPlacedAfterInThread lines → AllPairs PlacedAfter lines
 one_thread_rising thread lines of_thread pairs i j d before within = pairs i j d before within (of_thread i d (omega arith) ∙ sym (of_thread j d within))
 
-pub one_thread_serial : (opened : World) (limits : Limits) (thread : ℕ) (lines : List Line) (linearized : IsLinearized opened limits lines) → All (λ (line : Line). line.thread ≡ thread) lines
-    → IsSerial opened [] (map what_of lines) linearized.history
-one_thread_serial opened limits thread lines linearized of_thread =
-    let count : length linearized.history ≡ write_count lines = histories_count lines linearized.history linearized.places in
-    continues_serially opened linearized.history lines [] (record {
-      prefix = (linearized.history, refl);
+pub one_thread_serial : (opened : World) (limits : Limits) (thread : ℕ) (lines : List Line) (history : List op.Op) → IsLinearized opened limits history lines → All (λ (line : Line). line.thread ≡ thread) lines
+    → IsSerial opened [] (map what_of lines) history
+one_thread_serial opened limits thread lines history linearized of_thread =
+    let count : length history ≡ write_count lines = histories_count lines history linearized.places in
+    continues_serially opened history lines [] (record {
+      prefix = (history, refl);
       places = λ q. sym (nothing_before q (operations_at q (writes lines))) ∙ linearized.places q;
       count = omega arith;
       writes_true = linearized.writes;
-      reads_true = λ k d within. subst (λ (n : ℕ). IsReadTrue opened linearized.history n (get_or lines k d).what) (sym count) (linearized.reads k d within).0;
-      from = all-from_each_after (IsWritePlaced (write_count lines)) (λ (line : Line). IsFrom 0 line.what) lines (write_from (write_count lines)) (placed_from_history lines linearized.history linearized.places);
+      reads_true = λ k d within. subst (λ (n : ℕ). IsReadTrue opened history n (get_or lines k d).what) (sym count) (linearized.reads k d within).0;
+      from = all-from_each_after (IsWritePlaced (write_count lines)) (λ (line : Line). IsFrom 0 line.what) lines (write_from (write_count lines)) (placed_from_history lines history linearized.places);
       rising = one_thread_rising thread lines of_thread (pairs-from_each_after IsPlacedAfterInThread lines linearized.rising);
     })

@@ -3,8 +3,9 @@ use Rattle.std.proofs.Common.{inl, inr, get_or, ◌≡◌, ◌∙◌, ℕ, zero,
 use Rattle.std.specs.Prelude.{All, AllPairs}
 use Rattle.std.proofs.lemmas.Bool.{true≢false}
 use Rattle.std.proofs.lemmas.Bool.{cases_lt, cases_eq}
-use Rattle.std.proofs.lemmas.List.{take_at, get_or_default}
-use Rattle.std.proofs.lemmas.List.Elements.{All-nil, All-cons, All-weaker}
+use Rattle.std.proofs.lemmas.List.{take_at, get_or_default, get_or-take, length-take-le}
+use Rattle.std.proofs.lemmas.List.Elements.{All-nil, All-cons, All-weaker, All-take}
+use Rattle.std.proofs.lemmas.Option.{slice_get_within, get_or_from_slice_get, slice_get-get_or}
 use Rattle.std.proofs.lemmas.List.Kept.{AllPairs-cons}
 use Rattle.std.proofs.Math.Dec.{eqb-suc-zero, eqb-zero-suc, eqb-suc-suc}
 use Rattle.at_value.specs.declared.limits.Limits.{Limits}
@@ -21,8 +22,8 @@ use Rattle.at_line.specs.declared.line.What.TheVariants as whats
 use Rattle.at_model.specs.World.{World}
 use Rattle.at_model.specs.Step.{step, is_write}
 use Rattle.at_model.specs.History.{replay}
-use Rattle.at_line.specs.Lines.{what_of, is_write_reply, is_write_line, write_in, writes, write_count, operations_at, history_at, IsHistory}
-use Rattle.at_line.specs.Legal.{world_at, world_before, IsWriteTrue, IsReadTrue, IsKeptAlone, IsPlacedAfter, IsPlacedAfterInThread, IsPlacedFrom, RunsAfter, IsLimitMet, AreWritesTrue, AreRising, AreInTurn, IsLinearized}
+use Rattle.at_line.specs.Lines.{EachAfter, what_of, is_write_reply, is_write_line, write_in, writes, write_count, operations_at, history_at, IsHistory}
+use Rattle.at_line.specs.Legal.{world_at, world_before, IsWriteTrue, IsReadTrue, IsKeptAlone, IsPlacedAfter, IsPlacedAfterInThread, IsPlacedFrom, RunsAfter, IsInTurn, IsLimitMet, AreWritesTrue, AreRising, AreInTurn, IsLinearized}
 use Rattle.at_line.proofs.Each.{each_after-from_pairs}
 use Rattle.at_line.specs.Serial.{GoesOn, Adds, IsSerial, NamesNoLimit, AreInOrder}
 
@@ -277,17 +278,42 @@ in_turn-from_pairs lines pairs order k d within i e there after =
 
 pub serial_is_linearized : (opened : World) (limits : Limits) (lines : List Line) (history : List op.Op) → AreInOrder lines → IsSerial opened [] (map what_of lines) history
     → All (λ (line : Line). NamesNoLimit line.what) lines → All (λ (line : Line). IsKeptAlone line.thread line.what) lines
-    → (linearized : IsLinearized opened limits lines) × (linearized.history ≡ history)
+    → IsLinearized opened limits history lines
 serial_is_linearized opened limits lines history order serial no_limit kept =
-    let are = are_serial opened lines history serial in (
-      record {
-        history = history;
-        places = are.places;
-        writes = are.writes_true;
-        reads = λ k d within. (are.reads_true k d within, kept k d within);
-        rising = rising-from_pairs lines are.rising;
-        turns = in_turn-from_pairs lines are.rising order;
-        limits_met = λ k d within. meets_no_limit limits (write_count lines) (length lines) (get_or lines k d).what (no_limit k d within);
-      },
-      refl,
-    )
+    let are = are_serial opened lines history serial in
+    record {
+      places = are.places;
+      writes = are.writes_true;
+      reads = λ k d within. (are.reads_true k d within, kept k d within);
+      rising = rising-from_pairs lines are.rising;
+      turns = in_turn-from_pairs lines are.rising order;
+      limits_met = λ k d within. meets_no_limit limits (write_count lines) (length lines) (get_or lines k d).what (no_limit k d within);
+    }
+
+-- In turn, line by line
+
+pub turns-by_line : (lines : List Line) → AreInTurn lines → EachAfter IsInTurn lines
+turns-by_line lines turns i line at =
+    let within : i < length lines = slice_get_within lines i line at in
+    let here : IsInTurn lines line = subst (IsInTurn lines) (get_or_from_slice_get lines i line line at) (turns i line within) in
+    All-take (λ (first : Line). RunsAfter first.thread line.thread → IsPlacedFrom first.what line.what) i lines here
+
+pub turns-from_lines : (lines : List Line) → AreInOrder lines → EachAfter IsInTurn lines → AreInTurn lines
+turns-from_lines lines order each k d within i e there after =
+    let line : Line = get_or lines k d in
+    let first : Line = get_or lines i d in
+    let same : get_or lines i e ≡ first = get_or_default lines i e d there in
+    let runs : RunsAfter first.thread line.thread = subst (λ (l : Line). RunsAfter l.thread line.thread) same after in
+    elim (cases_lt i k) [
+      | inl before ↦
+          let long : i < length (take k lines) = omega (arith, length-take-le k lines (omega arith)) in
+          let taken : get_or (take k lines) i d ≡ first = get_or-take k lines i d before in
+          let from : IsPlacedFrom (get_or (take k lines) i d).what line.what =
+          each k line (slice_get-get_or lines k d within) i d long (subst (λ (l : Line). RunsAfter l.thread line.thread) (sym taken) runs) in
+          subst (λ (l : Line). IsPlacedFrom l.what line.what) (taken ∙ sym same) from
+      | inr from ↦
+          elim (cases_eq i k) [
+            | inl at ↦ absurd (never_after line.thread first.thread line.thread (ap (λ (n : ℕ). (get_or lines n d).thread) at) refl runs)
+            | inr other ↦ absurd (order k i d (omega arith) there runs)
+          ]
+    ]

@@ -9,7 +9,7 @@ use Rattle.at_line.specs.declared.line.What as what
 use Rattle.at_line.specs.declared.line.What.TheVariants as whats
 use Rattle.at_model.specs.declared.rows.Object.{Object}
 use Rattle.at_model.specs.World.{World}
-use Rattle.at_line.specs.Lines.{EachAfter, IsHistory, write_in}
+use Rattle.at_line.specs.Lines.{EachAfter, write_in}
 use Rattle.at_line.specs.Legal.{world_before}
 
 -- Rows
@@ -96,8 +96,7 @@ abbrev pub IsKeptLine : World → List op.Op → List Line → List Line → Lin
 IsKeptLine opened history lines before line =
     IsKeptEnd opened history (writes_beside line.thread lines) (open_sections [] (whats_of_thread line.thread before)) line.what
 
--- Each section whose end replied `Kept` was kept: the writes of the other threads leave its objects alone.
-pub record IsKept (opened : World) (lines : List Line) : Type 0 where
-  pub history : List op.Op
-  pub places : IsHistory lines history
-  pub left_alone : EachAfter (IsKeptLine opened history lines) lines
+-- Each section whose end replied `Kept` was kept, where this is the history of the lines: the writes of the other threads
+-- leave its objects alone.
+abbrev pub IsKept : World → List op.Op → List Line → Type 0
+IsKept opened history lines = EachAfter (IsKeptLine opened history lines) lines

@@ -5,8 +5,8 @@ use Rattle.at_value.specs.declared.operation.Op as op
 use Rattle.at_line.specs.declared.line.Line.{Line}
 use Rattle.at_model.specs.World.{World}
 use Rattle.at_model.specs.History.{IsProper}
-use Rattle.at_line.specs.Lines.{what_of, write_count, IsHistory}
-use Rattle.at_line.specs.Legal.{IsLinearized, IsKeptAlone, AreWritesPlaced}
+use Rattle.at_line.specs.Lines.{EachAfter, what_of, write_count, IsHistory}
+use Rattle.at_line.specs.Legal.{IsLinearized, IsKeptAlone, IsInTurn, AreInTurn, AreWritesPlaced}
 use Rattle.at_line.specs.Kept.{IsKept}
 use Rattle.at_line.specs.Serial.{IsSerial, NamesNoLimit, AreInOrder}
 
@@ -24,7 +24,7 @@ PlacedWritesAreHistories = (lines : List Line) → AreWritesPlaced lines ↔ ((h
 
 -- the history of a linearized list is proper
 abbrev pub LegalHistoriesAreProper : Type 0
-LegalHistoriesAreProper = (opened : World) (limits : Limits) (lines : List Line) (linearized : IsLinearized opened limits lines) → IsProper opened linearized.history
+LegalHistoriesAreProper = (opened : World) (limits : Limits) (history : List op.Op) (lines : List Line) → IsLinearized opened limits history lines → IsProper opened history
 
 -- Lines of threads in their order, each at the end of the history so far, are linearized under any limits, where none names
 -- a limit and the sections of a thread that runs alone are kept. Their history is what they lead to.
@@ -32,13 +32,13 @@ abbrev pub SerialLinesAreLinearized : Type 0
 SerialLinesAreLinearized =
     (opened : World) (limits : Limits) (lines : List Line) (history : List op.Op) → AreInOrder lines → IsSerial opened [] (map what_of lines) history
     → All (λ (line : Line). NamesNoLimit line.what) lines → All (λ (line : Line). IsKeptAlone line.thread line.what) lines
-    → (linearized : IsLinearized opened limits lines) × (linearized.history ≡ history)
+    → IsLinearized opened limits history lines
 
 -- and the other way round: linearized lines of one thread were done one after another, each at the end of the history so far
 abbrev pub OneThreadIsSerial : Type 0
 OneThreadIsSerial =
-    (opened : World) (limits : Limits) (thread : ℕ) (lines : List Line) (linearized : IsLinearized opened limits lines) → All (λ (line : Line). line.thread ≡ thread) lines
-    → IsSerial opened [] (map what_of lines) linearized.history
+    (opened : World) (limits : Limits) (thread : ℕ) (lines : List Line) (history : List op.Op) → IsLinearized opened limits history lines
+    → All (λ (line : Line). line.thread ≡ thread) lines → IsSerial opened [] (map what_of lines) history
 
 -- the lines of one thread are in order
 abbrev pub OneThreadIsInOrder : Type 0
@@ -47,5 +47,8 @@ OneThreadIsInOrder = (thread : ℕ) (lines : List Line) → All (λ (line : Line
 -- the sections of lines of one thread are kept: no other thread writes
 abbrev pub OneThreadIsKept : Type 0
 OneThreadIsKept =
-    (opened : World) (thread : ℕ) (lines : List Line) (history : List op.Op) → All (λ (line : Line). line.thread ≡ thread) lines → IsHistory lines history
-    → IsKept opened lines
+    (opened : World) (thread : ℕ) (lines : List Line) (history : List op.Op) → All (λ (line : Line). line.thread ≡ thread) lines → IsKept opened history lines
+
+-- where the threads stand in order, lines are in turn exactly where each is after those before it
+abbrev pub TurnsAreByLine : Type 0
+TurnsAreByLine = (lines : List Line) → AreInOrder lines → AreInTurn lines ↔ EachAfter IsInTurn lines

@@ -134,10 +134,9 @@ AreInTurn lines = All (IsInTurn lines) lines
 abbrev pub AreLimitsMet : Limits → List Line → Type 0
 AreLimitsMet limits lines = All (λ (line : Line). IsLimitMet limits (write_count lines) (length lines) line.what) lines
 
--- The lines are linearized by their places, from an opening world on and under these limits, whatever their paths: their
--- writes are a history, and under it each part holds.
-pub record IsLinearized (opened : World) (limits : Limits) (lines : List Line) : Type 0 where
-  pub history : List op.Op
+-- The lines are linearized by their places, from an opening world on and under these limits, whatever their paths: this is
+-- the history of their writes, and under it each part holds.
+pub record IsLinearized (opened : World) (limits : Limits) (history : List op.Op) (lines : List Line) : Type 0 where
   pub places : IsHistory lines history
   pub writes : AreWritesTrue opened history lines
   pub reads : AreReadsTrue opened history lines
@@ -146,6 +145,6 @@ pub record IsLinearized (opened : World) (limits : Limits) (lines : List Line) :
   pub limits_met : AreLimitsMet limits lines
 
 -- The lines are legal: they are linearized, and each operation went a way that it may go.
-pub record IsLegal (opened : World) (limits : Limits) (lines : List Line) : Type 0 where
-  pub linearized : IsLinearized opened limits lines
+pub record IsLegal (opened : World) (limits : Limits) (history : List op.Op) (lines : List Line) : Type 0 where
+  pub linearized : IsLinearized opened limits history lines
   pub paths : ArePathsAllowed lines

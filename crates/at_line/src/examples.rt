@@ -7,12 +7,12 @@ ghost use Rattle.at_model.specs.World.{opening};
 ghost use Rattle.at_line.specs.Legal.{IsLinearized, AreWritesTrue, AreReadsTrue, AreRising, AreInTurn, AreLimitsMet};
 ghost use Rattle.at_line.specs.Paths.{AreLocked, is_shared_way};
 ghost use Rattle.at_line.specs.Kept.{IsKept};
-ghost use Rattle.at_line.specs.KeptExamples.{other_written, written_once_ended, object_written, dictionary_written, inner_written, outer_written};
+ghost use Rattle.at_line.specs.KeptExamples.{other_written, other_written_history, written_once_ended, object_written, object_written_history, dictionary_written, dictionary_written_history, inner_written, outer_written};
 ghost use Rattle.at_line.specs.LineExamples.{example_limits, legal_lines, legal_history, place_twice, place_left_out, other_object_made, refused_write_done, refused_write_history, read_past_the_end, reply_of_the_place_before, suspended_in_main, place_falls, write_at_a_place_read, thread_before_main, finally_before_thread, full_too_early, full_past_the_end, worn_too_early, worn_too_far, read_without_locks, ways_there, ways_not_there};
 
 /// A list of lines of `main`, two threads and `finally` that is linearized, all of them under locks.
 pub fn legal_example()
-    ensures linearized { IsLinearized opening example_limits legal_lines }
+    ensures linearized { IsLinearized opening example_limits legal_history legal_lines }
     ensures locked { AreLocked legal_lines }
 {}
 
@@ -57,15 +57,17 @@ pub fn ways_of_operations()
 
 /// Lists with sections that are kept, while another thread writes another object, or an object whose section has ended.
 pub fn kept_examples()
-    ensures other { IsKept opening other_written }
-    ensures ended { IsKept opening written_once_ended }
+    ensures histories { IsHistory other_written other_written_history × IsHistory written_once_ended other_written_history }
+    ensures other { IsKept opening other_written_history other_written }
+    ensures ended { IsKept opening other_written_history written_once_ended }
 {}
 
 /// Lists with a section that replied that it was kept, while another thread wrote its object: the object itself, the
 /// dictionary that it names, the object of the section that an end belongs to among two that nest.
 pub fn lists_with_broken_sections()
-    ensures object { ¬ IsKept opening object_written }
-    ensures dictionary { ¬ IsKept opening dictionary_written }
-    ensures inner { ¬ IsKept opening inner_written }
-    ensures outer { ¬ IsKept opening outer_written }
+    ensures histories { IsHistory object_written object_written_history × IsHistory dictionary_written dictionary_written_history × IsHistory inner_written dictionary_written_history × IsHistory outer_written object_written_history }
+    ensures object { ¬ IsKept opening object_written_history object_written }
+    ensures dictionary { ¬ IsKept opening dictionary_written_history dictionary_written }
+    ensures inner { ¬ IsKept opening dictionary_written_history inner_written }
+    ensures outer { ¬ IsKept opening object_written_history outer_written }
 {}

@@ -1,5 +1,5 @@
 //! What is true of lists of lines and of their histories. Each function does nothing: its contract is the law.
-ghost use Rattle.at_line.specs.Laws.{HistoriesAreUnique, HistoriesCountWrites, PlacedWritesAreHistories, LegalHistoriesAreProper, OneThreadIsInOrder, OneThreadIsKept, OneThreadIsSerial, SerialLinesAreLinearized};
+ghost use Rattle.at_line.specs.Laws.{HistoriesAreUnique, HistoriesCountWrites, PlacedWritesAreHistories, LegalHistoriesAreProper, OneThreadIsInOrder, OneThreadIsKept, OneThreadIsSerial, SerialLinesAreLinearized, TurnsAreByLine};
 
 /// Lines that were each done at the end of the history so far are linearized, whatever the limits, where their threads stand
 /// in the order in which they run, none of the lines names a limit, and the sections of a thread that runs alone are kept.
@@ -7,6 +7,12 @@ ghost use Rattle.at_line.specs.Laws.{HistoriesAreUnique, HistoriesCountWrites, P
 pub fn serial_lines_are_linearized()
     ensures linearized { SerialLinesAreLinearized }
     ensures one_thread { OneThreadIsInOrder }
+{}
+
+/// Where the threads stand in the order in which they run, lines are in turn exactly where each line is after those before
+/// it: so the first line that isn't can be named.
+pub fn turns_are_by_line()
+    ensures { TurnsAreByLine }
 {}
 
 /// Linearized lines of one thread were done one after another, each at the end of the history so far: a write at the place

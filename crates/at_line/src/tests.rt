@@ -8,6 +8,7 @@ fn laws_of_histories_hold() {
     laws::serial_lines_are_linearized();
     laws::one_thread_is_serial();
     laws::one_thread_is_kept();
+    laws::turns_are_by_line();
 }
 
 #[test]

@@ -17,7 +17,7 @@ use Rattle.at_value.specs.declared.reply.Reply.TheVariants as replies
 use Rattle.at_value.specs.Widths as widths
 use Rattle.at_model.specs.declared.rows.ClassRow.{ClassRow}
 use Rattle.at_model.specs.declared.rows.Object.{Object}
-use Rattle.at_model.specs.World.{World, Map, row_of, row_or_empty, own_of, order_of, find_in}
+use Rattle.at_model.specs.World.{World, Map, row_of, new_row, row_or_empty, own_of, order_of, find_in}
 use Rattle.at_model.specs.Attributes.{Outcome, unchanged, get_reply, special_reply, super_reply, type_get_reply, class_of_reply, mro_reply, set_effect, del_effect}
 
 -- What an operation names
@@ -119,9 +119,13 @@ unless_unordered w changed (Some k) = unchanged w (replies.NoOrder k)
 abbrev pub if_ordered : World → World → Outcome
 if_ordered w changed = unless_unordered w changed (first_unordered changed)
 
+-- whether a class can't be changed and has no objects of its own: so is `object`
+abbrev pub is_fixed : World → ℕ → Bool
+is_fixed w c = c == object
+
 -- the world in which c is made, with these bases and no name
 abbrev pub with_class : World → ℕ → List ℕ → World
-with_class w c bases = record w { classes = set w.classes c (Some (record { bases = bases; own = [] })) }
+with_class w c bases = record w { classes = set w.classes c (Some (new_row bases)) }
 
 -- `class c(bases)`; where c is a number past the list of classes, nothing is made
 abbrev pub new_class_effect : World → ℕ → List ℕ → Outcome
@@ -152,7 +156,7 @@ is_cycle w c bases = list_any (λ b. is_in_order c (order_of w b)) bases
 -- `c.__bases__ = bases`
 abbrev pub set_bases_effect : World → ℕ → List ℕ → Outcome
 set_bases_effect w c bases =
-    if c == object
+    if is_fixed w c
     then unchanged w replies.Immutable
     else if is_empty bases
     then unchanged w replies.EmptyBases
@@ -172,14 +176,14 @@ with_own w c names = record w { classes = with_names w.classes c (row_of w.class
 -- `c.n = v`
 abbrev pub type_set_effect : World → ℕ → ℕ → value.Value → Outcome
 type_set_effect w c n v =
-    if c == object
+    if is_fixed w c
     then unchanged w replies.Immutable
     else record { reply = replies.Done; world = with_own w c (with_value n v (own_of (row_of w.classes c))) }
 
 -- `del c.n`
 abbrev pub type_del_effect : World → ℕ → ℕ → Outcome
 type_del_effect w c n =
-    if c == object
+    if is_fixed w c
     then unchanged w replies.Immutable
     else if is_none (value_at n (own_of (row_of w.classes c)))
     then unchanged w replies.NoAttr
@@ -194,7 +198,7 @@ with_object w c = record w { objects = w.objects ++ (record { class = c; dict = 
 -- `c()`
 abbrev pub new_effect : World → ℕ → Outcome
 new_effect w c =
-    if c == object
+    if is_fixed w c
     then unchanged w replies.Immutable
     else if nat_le widths.objects (length w.objects)
     then unchanged w replies.Full
@@ -208,7 +212,7 @@ with_object_at w o now = record w { objects = set w.objects o now }
 abbrev pub set_class_on : World → ℕ → ℕ → Option Object → Outcome
 set_class_on w o c None = unchanged w replies.NoAttr
 set_class_on w o c (Some was) =
-    if c == object
+    if is_fixed w c
     then unchanged w replies.Immutable
     else record { reply = replies.Done; world = with_object_at w o (record was { class = c }) }
 

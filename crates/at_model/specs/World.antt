@@ -65,9 +65,13 @@ order_of w c = order_in w.classes c
 
 -- Finding a name
 
+-- a class with these bases and without names
+abbrev pub new_row : List ℕ → ClassRow
+new_row bases = record { bases = bases; own = [] }
+
 -- what a world has of a class, and no base and no name where it isn't made
 abbrev pub row_or_empty : Option ClassRow → ClassRow
-row_or_empty None = record { bases = []; own = [] }
+row_or_empty None = new_row []
 row_or_empty (Some row) = row
 
 abbrev pub own_of : Option ClassRow → Map
@@ -97,7 +101,7 @@ find_in w c n = find_by w.classes (order_of w c) n
 
 -- the world of the class `object` alone, which has no base and no name
 abbrev pub opening : World
-opening = record { classes = Some (record { bases = []; own = [] }) ∷ replicate (widths.classes - 1) None; objects = []; dicts = [] }
+opening = record { classes = Some (new_row []) ∷ replicate (widths.classes - 1) None; objects = []; dicts = [] }
 
 abbrev pub IsMade : World → ℕ → Type 0
 IsMade w c = IsTrue (is_some (row_of w.classes c))
@@ -136,7 +140,7 @@ pub record IsNamespace (w : World) (names : Map) : Type 0 where
 -- for each.
 pub record IsWellFormed (w : World) : Type 0 where
   pub numbered : length w.classes ≡ widths.classes
-  pub rooted : row_of w.classes object ≡ Some (record { bases = []; own = [] })
+  pub rooted : row_of w.classes object ≡ Some (new_row [])
   pub based : (c b : ℕ) → IsBase w b c → IsMade w b
   pub distinct : (c : ℕ) → IsDistinct nat_eq (bases_of (row_of w.classes c))
   pub acyclic : (n c : ℕ) → ¬ IsAboveBy n w c c

@@ -25,12 +25,11 @@ first_alone =
     All-from_recursion (LeavesAlone opening other_written_history 3 4 (0 ∷ [])) (writes_beside 1 other_written)
     (λ past. absurd (omega arith), (λ past. absurd (omega arith), (λ past. absurd (omega arith), (λ past before o has touched. absurd (omega (arith, only_zero o has, only_one o touched)), tt))))
 
+pub returns-clause-histories : goal.returns-clause-histories
+returns-clause-histories c = (search rules, search rules)
+
 pub returns-clause-other : goal.returns-clause-other
-returns-clause-other c = record {
-  history = other_written_history;
-  places = search rules;
-  left_alone = each_after-from_recursion (IsKeptLine opening other_written_history other_written) other_written (tt, (tt, (tt, (tt, (tt, (first_alone, (tt, tt)))))));
-}
+returns-clause-other c = each_after-from_recursion (IsKeptLine opening other_written_history other_written) other_written (tt, (tt, (tt, (tt, (tt, (first_alone, (tt, tt)))))))
 
 -- the inner section ends where it begins, and the outer one is over the first object
 inner_alone : All (LeavesAlone opening other_written_history 3 3 (1 ∷ [])) (writes_beside 1 written_once_ended)
@@ -44,9 +43,5 @@ outer_alone =
     (λ past. absurd (omega arith), (λ past. absurd (omega arith), (λ past. absurd (omega arith), (λ past before o has touched. absurd (omega (arith, only_zero o has, only_one o touched)), tt))))
 
 pub returns-clause-ended : goal.returns-clause-ended
-returns-clause-ended c = record {
-  history = other_written_history;
-  places = search rules;
-  left_alone = each_after-from_recursion (IsKeptLine opening other_written_history written_once_ended) written_once_ended
-      (tt, (tt, (tt, (tt, (tt, (inner_alone, (outer_alone, (tt, tt))))))));
-}
+returns-clause-ended c = each_after-from_recursion (IsKeptLine opening other_written_history written_once_ended) written_once_ended
+    (tt, (tt, (tt, (tt, (tt, (inner_alone, (outer_alone, (tt, tt))))))))

@@ -45,7 +45,6 @@ locked = All-from_recursion (λ (line : Line). IsLocked line.what) legal_lines (
 
 pub returns-clause-linearized : goal.returns-clause-linearized
 returns-clause-linearized c = record {
-  history = legal_history;
   places = places;
   writes = writes_true;
   reads = reads_true;
