@@ -2,6 +2,7 @@ pub mod Each
 pub mod Histories
 pub mod Serials
 pub mod OneThread
-mod Placed
-mod KeptSections
+pub mod Placed
+pub mod KeptSections
 mod LineChecks
+pub mod SerialSections

@@ -209,7 +209,7 @@ few_held (suc zero) (o ∷ history) = omega arith
 few_held (suc (suc before)) (o ∷ history) = few_held (suc before) history
 
 -- a list at an element of it
-split_at : (lines : List Line) (i : ℕ) (line : Line) → slice_get lines i ≡ Some line → lines ≡ take i lines ++ line ∷ drop (suc i) lines
+pub split_at : (lines : List Line) (i : ℕ) (line : Line) → slice_get lines i ≡ Some line → lines ≡ take i lines ++ line ∷ drop (suc i) lines
 split_at [] i line at = absurd cc
 split_at (first ∷ lines) zero line at = let same : first ≡ line = cc in ap (λ l. l ∷ lines) same
 split_at (first ∷ lines) (suc i) line at = ap (λ ls. first ∷ ls) (split_at lines i line at)

@@ -254,7 +254,7 @@ one_thread_in_order thread lines of_thread i j d before within = λ after.
 pub rising-from_pairs : (lines : List Line) → AllPairs PlacedAfter lines → AreRising lines
 rising-from_pairs lines pairs = each_after-from_pairs IsPlacedAfterInThread lines (λ i j d before within. λ same. pairs i j d before within)
 
-placed_from : (first second : what.What) → IsPlacedAfter first second → IsPlacedFrom first second
+pub placed_from : (first second : what.What) → IsPlacedAfter first second → IsPlacedFrom first second
 placed_from (whats.Did first first_path first_operation first_reply) (whats.Did second path operation reply) after = after.0
 placed_from (whats.Did first first_path first_operation first_reply) (whats.Local local) after = tt
 placed_from (whats.Local local) second after = tt

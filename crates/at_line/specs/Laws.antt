@@ -8,7 +8,7 @@ use Rattle.at_model.specs.History.{IsProper}
 use Rattle.at_line.specs.Lines.{EachAfter, what_of, write_count, IsHistory}
 use Rattle.at_line.specs.Legal.{IsLinearized, IsKeptAlone, IsInTurn, AreInTurn, AreWritesPlaced}
 use Rattle.at_line.specs.Kept.{IsKept}
-use Rattle.at_line.specs.Serial.{IsSerial, NamesNoLimit, AreInOrder}
+use Rattle.at_line.specs.Serial.{IsSerial, NamesNoLimit, AreInOrder, AreByThread}
 
 -- lines have one history
 abbrev pub HistoriesAreUnique : Type 0
@@ -52,3 +52,7 @@ OneThreadIsKept =
 -- where the threads stand in order, lines are in turn exactly where each is after those before it
 abbrev pub TurnsAreByLine : Type 0
 TurnsAreByLine = (lines : List Line) → AreInOrder lines → AreInTurn lines ↔ EachAfter IsInTurn lines
+
+-- where the lines of each thread stand together, each line at the end of the history so far, all sections are kept
+abbrev pub SerialLinesAreKept : Type 0
+SerialLinesAreKept = (opened : World) (lines : List Line) (history : List op.Op) → AreByThread lines → IsSerial opened [] (map what_of lines) history → IsKept opened history lines

@@ -101,7 +101,7 @@ IsInTurn lines line = All (λ (first : Line). RunsAfter first.thread line.thread
 -- Limits
 
 -- `full` names a place from the limit on, and no place above the count of writes; `worn` names a sequence from the limit
--- on, which four openings a line can have brought about
+-- on, which at most two openings of a head a line can have brought about, each of which raises it by two
 abbrev pub IsLimitMet : Limits → ℕ → ℕ → what.What → Type 0
 IsLimitMet limits writes lines (whats.Did place path operation reply) = Unit {0}
 IsLimitMet limits writes lines (whats.Local locals.Depth) = Unit {0}

@@ -1,5 +1,5 @@
 -- Lines that were done one after another, each at the end of the history so far.
-use Rattle.std.specs.Prelude.{ℕ, suc, ◌≡◌, Bool, true, false, List, [], ◌∷◌, ◌++◌, length, AllPairs}
+use Rattle.std.specs.Prelude.{ℕ, suc, ◌≡◌, ◌≤◌, Bool, true, false, List, [], ◌∷◌, ◌++◌, length, AllPairs}
 use Rattle.at_value.specs.declared.operation.Op as op
 use Rattle.at_line.specs.declared.line.Line.{Line}
 use Rattle.at_line.specs.declared.line.LineOp.TheVariants as line_ops
@@ -45,3 +45,7 @@ NamesNoLimit (whats.Local (locals.Full place)) = ⊥
 -- the threads stand in the order in which they run: no line before one of a thread that has ended when its own begins
 abbrev pub AreInOrder : List Line → Type 0
 AreInOrder lines = AllPairs (λ (first second : Line). ¬ RunsAfter second.thread first.thread) lines
+
+-- the lines of each thread stand together, and the threads by rising number
+abbrev pub AreByThread : List Line → Type 0
+AreByThread lines = AllPairs (λ (first second : Line). first.thread ≤ second.thread) lines

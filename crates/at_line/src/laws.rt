@@ -1,5 +1,5 @@
 //! What is true of lists of lines and of their histories. Each function does nothing: its contract is the law.
-ghost use Rattle.at_line.specs.Laws.{HistoriesAreUnique, HistoriesCountWrites, PlacedWritesAreHistories, LegalHistoriesAreProper, OneThreadIsInOrder, OneThreadIsKept, OneThreadIsSerial, SerialLinesAreLinearized, TurnsAreByLine};
+ghost use Rattle.at_line.specs.Laws.{HistoriesAreUnique, HistoriesCountWrites, PlacedWritesAreHistories, LegalHistoriesAreProper, OneThreadIsInOrder, OneThreadIsKept, OneThreadIsSerial, SerialLinesAreKept, SerialLinesAreLinearized, TurnsAreByLine};
 
 /// Lines that were each done at the end of the history so far are linearized, whatever the limits, where their threads stand
 /// in the order in which they run, none of the lines names a limit, and the sections of a thread that runs alone are kept.
@@ -34,7 +34,9 @@ pub fn legal_histories_are_proper()
     ensures { LegalHistoriesAreProper }
 {}
 
-/// The sections of lines that are all of one thread are kept, since no other thread writes.
+/// The sections of lines that are all of one thread are kept, since no other thread writes, and so are those of threads that
+/// run one after another.
 pub fn one_thread_is_kept()
-    ensures { OneThreadIsKept }
+    ensures one_thread { OneThreadIsKept }
+    ensures serial { SerialLinesAreKept }
 {}
