@@ -1,5 +1,5 @@
 -- The blocks of a run stand in the order in which they run.
-use Rattle.std.proofs.Common.{◌≡◌, ℕ, zero, suc, ◌+◌, ◌≤◌, arith, inl, inr, List, [], ◌∷◌, ◌++◌, append_assoc, append-nil, sym, subst}
+use Rattle.std.proofs.Common.{◌≡◌, ℕ, zero, suc, ◌+◌, ◌≤◌, arith, inl, inr, List, [], ◌∷◌, ◌++◌, get_or, append_assoc, append-nil, sym, subst}
 use Rattle.std.specs.Prelude.{All}
 use Rattle.std.proofs.lemmas.List.Elements.{All-nil, All-cons, All-weaker}
 use Rattle.std.proofs.lemmas.List.Kept.{AllPairs-cons}
@@ -7,14 +7,14 @@ use Rattle.at_line.specs.declared.line.Line.{Line}
 use Rattle.at_line.specs.declared.line.What as what
 use Rattle.at_line.specs.Lines.{main_thread, most_threads, finally_thread}
 use Rattle.at_line.specs.Legal.{RunsAfter}
-use Rattle.at_line.specs.Serial.{AreInOrder}
+use Rattle.at_line.specs.Serial.{AreInOrder, AreByThread}
 use Rattle.at_thread.specs.Runs.{numbered, lines_in_order, whole}
 
 abbrev IsFrom : ℕ → Line → Type 0
 IsFrom thread line = (thread ≤ line.thread) × (line.thread ≤ finally_thread)
 
 abbrev IsInOrder : Line → Line → Type 0
-IsInOrder first second = ¬ RunsAfter second.thread first.thread
+IsInOrder first second = first.thread ≤ second.thread
 
 -- a thread runs after none with a greater number
 in_order : (first second : ℕ) → first ≤ second → second ≤ finally_thread → RunsAfter second first → ⊥
@@ -24,7 +24,7 @@ in_order first second less most (inr (other, last)) = other (let e : second ≡ 
 -- lines that stand in order, all from a thread on
 record From (thread : ℕ) (lines : List Line) : Type 0 where
   pub from : All (IsFrom thread) lines
-  pub order : AreInOrder lines
+  pub order : AreByThread lines
 
 from_numbered : (thread number : ℕ) (told : List what.What) (rest : List Line) → thread ≤ finally_thread → From thread rest → From thread (numbered thread number told ++ rest)
 from_numbered thread number [] rest most on = on
@@ -34,7 +34,7 @@ from_numbered thread number (w ∷ told) rest most on =
     record {
       from = All-cons (IsFrom thread) line (numbered thread (suc number) told ++ rest) (omega arith, most) more.from;
       order = AllPairs-cons IsInOrder line (numbered thread (suc number) told ++ rest)
-          (All-weaker (IsFrom thread) (IsInOrder line) (λ second from after. in_order thread second.thread from.0 from.1 after) (numbered thread (suc number) told ++ rest) more.from) more.order;
+          (All-weaker (IsFrom thread) (IsInOrder line) (λ second from. from.0) (numbered thread (suc number) told ++ rest) more.from) more.order;
     }
 
 from_lower : (low thread : ℕ) (lines : List Line) → low ≤ thread → From thread lines → From low lines
@@ -54,9 +54,20 @@ from_threads (suc count) thread told rest most on =
 none_from : (thread : ℕ) → From thread []
 none_from thread = record { from = All-nil (IsFrom thread); order = λ i j d before within. absurd (omega arith) }
 
--- the lines of `main`, of the threads and of `finally` stand in order, where there are no more threads than there may be
-pub whole_in_order : (count : ℕ) (told : ℕ → List what.What) → count ≤ most_threads → AreInOrder (whole count told)
-whole_in_order count told few =
+-- the lines of `main`, of the threads and of `finally`, where there are no more threads than there may be
+whole_from : (count : ℕ) (told : ℕ → List what.What) → count ≤ most_threads → From main_thread (whole count told)
+whole_from count told few =
     let last : From finally_thread (numbered finally_thread 1 (told finally_thread)) = subst (From finally_thread) (append-nil (numbered finally_thread 1 (told finally_thread))) (from_numbered finally_thread 1 (told finally_thread) [] (omega arith) (none_from finally_thread)) in
-    let all = from_threads (suc count) main_thread told (numbered finally_thread 1 (told finally_thread)) (omega arith) (from_lower (main_thread + suc count) finally_thread (numbered finally_thread 1 (told finally_thread)) (omega arith) last) in
-    all.order
+    from_threads (suc count) main_thread told (numbered finally_thread 1 (told finally_thread)) (omega arith) (from_lower (main_thread + suc count) finally_thread (numbered finally_thread 1 (told finally_thread)) (omega arith) last)
+
+-- stand thread by thread
+pub whole_by_thread : (count : ℕ) (told : ℕ → List what.What) → count ≤ most_threads → AreByThread (whole count told)
+whole_by_thread count told few = (whole_from count told few).order
+
+-- in the order in which the threads run
+pub whole_in_order : (count : ℕ) (told : ℕ → List what.What) → count ≤ most_threads → AreInOrder (whole count told)
+whole_in_order count told few i j d before within =
+    let all = whole_from count told few in
+    let first : Line = get_or (whole count told) i d in
+    let second : Line = get_or (whole count told) j d in
+    in_order first.thread second.thread (all.order i j d before within) (all.from j d within).1

@@ -16,19 +16,20 @@ use Rattle.at_line.specs.Legal.{IsKeptAlone, IsLimitMet}
 use Rattle.at_line.specs.Lines.{main_thread, most_threads, what_of, is_write_reply, write_in, writes, write_count}
 use Rattle.at_line.specs.Kept.{whats_of_thread}
 use Rattle.at_line.specs.Paths.{IsLocked, IsPathAllowed}
-use Rattle.at_line.specs.Serial.{NamesNoLimit, AreInOrder}
+use Rattle.at_line.specs.Serial.{NamesNoLimit, AreInOrder, AreByThread}
 use Rattle.at_line.proofs.Serials.{serial_is_linearized}
 use Rattle.at_line.proofs.OneThread.{one_thread_serial}
+use Rattle.at_line.proofs.SerialSections.{serial_kept}
 use Rattle.at_script.specs.Parts.{ScriptParts}
 use Rattle.at_thread.specs.Runs.{numbered, unbound}
 use Rattle.at_thread.proofs.Alone.{alone_lines, numbered_length}
 use Rattle.at_thread.proofs.Leading.{short}
 use Rattle.at_event.proofs.OneThread.{serial_events}
-use Rattle.at_run.specs.Opening.{opening_of}
+use Rattle.at_run.specs.Opening.{opening_of, limits_of}
 use Rattle.at_run.specs.PlainRun.{IsUndisturbed, IsPlainRun}
 use Rattle.at_run.specs.LegalRun.{IsLegalRun}
 use Rattle.at_run.specs.Laws.{SerialRunsAreEvents, SerialRunsAreLinearized, LegalRunsOfOneBlockAreSerial}
-use Rattle.at_run.proofs.InOrder.{whole_in_order}
+use Rattle.at_run.proofs.InOrder.{whole_in_order, whole_by_thread}
 
 -- Serial runs
 
@@ -49,11 +50,15 @@ kept thread (whats.Did place path line_ops.Finish r) h = λ alone. h
 kept thread (whats.Local l) h = tt
 
 pub serial_run_linearized : SerialRunsAreLinearized
-serial_run_linearized p lines ends run few =
-    let order : AreInOrder lines = subst AreInOrder (sym run.runs.order) (whole_in_order (length p.threads) (λ thread. whats_of_thread thread lines) few) in
-    serial_is_linearized (opening_of p) program_limits lines run.history order run.serial
-    (All-weaker (λ (line : Line). IsUndisturbed line.what) (λ (line : Line). NamesNoLimit line.what) (λ line. unlimited line.what) lines run.undisturbed)
-    (All-weaker (λ (line : Line). IsUndisturbed line.what) (λ (line : Line). IsKeptAlone line.thread line.what) (λ line. kept line.thread line.what) lines run.undisturbed)
+serial_run_linearized s lines ends run few =
+    let says : ℕ → List what.What = λ thread. whats_of_thread thread lines in
+    let order : AreInOrder lines = subst AreInOrder (sym run.runs.order) (whole_in_order (length s.threads) says few) in
+    let by_thread : AreByThread lines = subst AreByThread (sym run.runs.order) (whole_by_thread (length s.threads) says few) in (
+      serial_is_linearized (opening_of s) (limits_of s) lines run.history order run.serial
+          (All-weaker (λ (line : Line). IsUndisturbed line.what) (λ (line : Line). NamesNoLimit line.what) (λ line. unlimited line.what) lines run.undisturbed)
+          (All-weaker (λ (line : Line). IsUndisturbed line.what) (λ (line : Line). IsKeptAlone line.thread line.what) (λ line. kept line.thread line.what) lines run.undisturbed),
+      serial_kept (opening_of s) lines run.history by_thread run.serial,
+    )
 
 pub serial_run_events : SerialRunsAreEvents
 serial_run_events s lines ends run = serial_events (opening_of s) (map what_of lines) run.history run.serial
@@ -65,16 +70,20 @@ locked_is_allowed : (w : what.What) → IsLocked w → IsPathAllowed w
 locked_is_allowed (whats.Did place path o r) h = h
 locked_is_allowed (whats.Local l) h = tt
 
-pub plain_is_legal : (p : ScriptParts) (lines : List Line) (last : final.Final) → length p.threads ≤ most_threads → IsPlainRun p lines last → IsLegalRun p lines last
-plain_is_legal p lines last few run =
-    let l = serial_run_linearized p lines last run.serial_run few in
+pub plain_is_legal : (s : ScriptParts) (lines : List Line) (last : final.Final) → length s.threads ≤ most_threads → IsPlainRun s lines last → IsLegalRun s lines last
+plain_is_legal s lines last few run =
+    let both = serial_run_linearized s lines last run.serial_run few in
     record {
-      runs = run.serial_run.runs;
-      legal = record {
-        linearized = l.0;
-        paths = All-weaker (λ (line : Line). IsLocked line.what) (λ (line : Line). IsPathAllowed line.what) (λ line. locked_is_allowed line.what) lines run.locked;
+      history = run.serial_run.history;
+      under = record {
+        runs = run.serial_run.runs;
+        legal = record {
+          linearized = both.0;
+          paths = All-weaker (λ (line : Line). IsLocked line.what) (λ (line : Line). IsPathAllowed line.what) (λ line. locked_is_allowed line.what) lines run.locked;
+        };
+        kept = both.1;
       };
-      ends = run.serial_run.ends ∙ ap (λ history. final_of (replay (opening_of p) history)) (sym l.1);
+      ends = run.serial_run.ends;
     }
 
 -- Legal runs of one block
@@ -117,20 +126,20 @@ few_writes (line ∷ lines) =
 
 pub legal_run_serial : LegalRunsOfOneBlockAreSerial
 legal_run_serial s lines ends threads finally budget run =
-    let l = run.legal.linearized in
+    let l = run.under.legal.linearized in
     let says = whats_of_thread main_thread lines in
-    let is : lines ≡ numbered main_thread 1 says = alone_lines s lines threads finally run.runs in
+    let is : lines ≡ numbered main_thread 1 says = alone_lines s lines threads finally run.under.runs in
     let main : All (λ (line : Line). line.thread ≡ main_thread) lines = subst (All (λ (line : Line). line.thread ≡ main_thread)) (sym is) (of_main 1 says) in
-    let executed = run.runs.main in
+    let executed = run.under.runs.main in
     let few = short s s.main (unbound s) says executed.end executed.runs in
     let long : length lines ≡ length says = ap length is ∙ numbered_length main_thread 1 says in
     let writes_made = few_writes lines in
     let begun = few.0 in
     let within = few.1 in
     record {
-      runs = run.runs;
-      history = l.history;
-      serial = one_thread_serial (opening_of s) program_limits main_thread lines l main;
+      runs = run.under.runs;
+      history = run.history;
+      serial = one_thread_serial (opening_of s) (limits_of s) main_thread lines run.history l main;
       undisturbed = λ k d there. undisturbed (get_or lines k d).thread (write_count lines) (length lines) (get_or lines k d).what (main k d there) (l.reads k d there).1 (l.limits_met k d there) writes_made (omega arith);
       ends = run.ends;
     }

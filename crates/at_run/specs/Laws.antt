@@ -1,14 +1,15 @@
 -- The laws of runs.
 use Rattle.std.specs.Prelude.{◌≡◌, ◌≤◌, List, [], length, map, All, None}
-use Rattle.at_value.specs.ProgramLimits.{program_limits}
 use Rattle.at_model.specs.declared.last.Final as final
 use Rattle.at_line.specs.declared.line.Line.{Line}
 use Rattle.at_line.specs.Legal.{IsLinearized}
+use Rattle.at_line.specs.Kept.{IsKept}
 use Rattle.at_line.specs.Lines.{main_thread, most_threads, what_of}
 use Rattle.at_event.specs.Events.{EventState, Event, first_state, IsEventRun}
 use Rattle.at_event.specs.OneView.{IsDoneBy, operations_in}
+use Rattle.at_script.specs.Limits as limits
 use Rattle.at_script.specs.Parts.{ScriptParts}
-use Rattle.at_run.specs.Opening.{opening_of}
+use Rattle.at_run.specs.Opening.{opening_of, limits_of}
 use Rattle.at_run.specs.LegalRun.{IsLegalRun}
 use Rattle.at_run.specs.PlainRun.{IsSerialRun, IsPlainRun}
 
@@ -26,13 +27,13 @@ PlainRunsAreOne =
     (s : ScriptParts) (first second : List Line) (first_ends second_ends : final.Final) → IsPlainRun s first first_ends → IsPlainRun s second second_ends
     → (first ≡ second) × (first_ends ≡ second_ends)
 
--- a serial run of a script with no more threads than there may be is linearized
+-- a serial run of a script with no more threads than there may be is linearized, and its sections are kept
 abbrev pub SerialRunsAreLinearized : Type 0
 SerialRunsAreLinearized =
     (s : ScriptParts) (lines : List Line) (ends : final.Final) (run : IsSerialRun s lines ends) → length s.threads ≤ most_threads
-    → (linearized : IsLinearized (opening_of s) program_limits lines) × (linearized.history ≡ run.history)
+    → IsLinearized (opening_of s) (limits_of s) run.history lines × IsKept (opening_of s) run.history lines
 
 -- a legal run of a script of one block is its plain run, paths aside
 abbrev pub LegalRunsOfOneBlockAreSerial : Type 0
 LegalRunsOfOneBlockAreSerial =
-    (s : ScriptParts) (lines : List Line) (ends : final.Final) → s.threads ≡ [] → s.finally ≡ None → s.budget ≤ 100000 → IsLegalRun s lines ends → IsSerialRun s lines ends
+    (s : ScriptParts) (lines : List Line) (ends : final.Final) → s.threads ≡ [] → s.finally ≡ None → s.budget ≤ limits.most_budget → IsLegalRun s lines ends → IsSerialRun s lines ends

@@ -5,7 +5,7 @@ ghost use Rattle.at_thread.specs.Threads.{state_of};
 ghost use Rattle.at_thread.specs.Execution as execution;
 ghost use Rattle.at_thread.specs.Executions.{Answers};
 ghost use Rattle.at_thread.specs.Runs.{numbered};
-ghost use Rattle.at_model.specs.World.{opening};
+ghost use Rattle.at_run.specs.Opening.{opening_of};
 ghost use Rattle.at_run.specs.PlainRun.{IsPlainRun};
 ghost use Rattle.at_run.specs.Turns.{IsPlain, Tells, Moves, TellsIn, Leading};
 
@@ -45,7 +45,7 @@ pub fn run_main(alloc: Global, script: &Script) -> Result<Ran, AllocError>
 
 /// Runs the block `main` to its end: its lines.
 fn run_block(alloc: Global, plain: &mut Plain, script: &Script) -> Result<Vec<Line>, AllocError>
-    requires { plain.old ≡ record { world = opening; place = 0 } }
+    requires { plain.old ≡ record { world = opening_of script.now; place = 0 } }
     ensures { IfOk result (λ lines. (says : List what.What) × (end : execution.ThreadState) × (lines.items ≡ numbered 0 1 says) × (execution.next_of script.now end ≡ execution.ended) × Leading script.now (execution.start script.now.main (replicate (length script.now.vars) None)) says end plain.new) }
 {
     let variables = unbound(alloc, script.vars())?;
