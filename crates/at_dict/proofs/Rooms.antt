@@ -1,6 +1,6 @@
--- How a put changes the number of names and of spare places.
-use Rattle.std.proofs.Common.{ℕ, ◌≡◌, ◌<◌, ◌+◌, ◌-◌, ◌⊎◌, inl, inr, List, [], ◌∷◌, length, IsSome, is_some, IsOk, OnOk, Result, Ok, Err, Bool, true, false, ap, sym, ◌∙◌, if◌then◌else◌, arith, refl}
-use Rattle.at_value.specs.Pairs.{value_at, with_value, IsRising}
+-- How a put and a cut change the number of names and of spare places.
+use Rattle.std.proofs.Common.{ℕ, ◌≡◌, ◌<◌, ◌≤◌, ◌+◌, ◌-◌, ◌⊎◌, inl, inr, List, [], ◌∷◌, length, IsSome, is_some, IsOk, OnOk, Result, Ok, Err, Bool, true, false, ap, sym, ◌∙◌, if◌then◌else◌, arith, refl}
+use Rattle.at_value.specs.Pairs.{value_at, with_value, without, IsRising}
 use Rattle.at_value.proofs.Maps.{by_order, value_at-above}
 
 -- a name that isn't there makes the map one longer
@@ -25,6 +25,25 @@ pub spare-after_put : {V E : Type 0} (n : ℕ) (v : V) (old new : List (ℕ × V
     → len ≡ length old → len' ≡ length new → OnOk r (new ≡ with_value n v old) → (IsSome (value_at n old) → IsOk r × (room' ≡ room)) → (len < room → IsOk r × (room' ≡ room))
     → IsSome (value_at n old) ⊎ (0 < room - len) → room' - len' ≡ (if is_some (value_at n old) then room - len else room - len - 1)
 spare-after_put {V} n v old new room room' len len' r rising at_first at_last ok there free h =
-    let kept : IsOk r × (room' ≡ room) = elim h [ inl found ↦ there found | inr left ↦ free (omega arith) ] in
-    let longer : length new ≡ length old + (if is_some (value_at n old) then 0 else 1) = ap length (promised r kept.0 ok) ∙ length-with_value n v old rising in
-    left_over (is_some (value_at n old)) room room' len len' kept.1 (at_last ∙ longer ∙ ap (λ k. k + (if is_some (value_at n old) then 0 else 1)) (sym at_first))
+    let fits : IsOk r × (room' ≡ room) = elim h [ inl found ↦ there found | inr left ↦ free (omega arith) ] in
+    let longer : length new ≡ length old + (if is_some (value_at n old) then 0 else 1) = ap length (promised r fits.0 ok) ∙ length-with_value n v old rising in
+    left_over (is_some (value_at n old)) room room' len len' fits.1 (at_last ∙ longer ∙ ap (λ k. k + (if is_some (value_at n old) then 0 else 1)) (sym at_first))
+
+-- without a name that is there the map is one shorter
+length-without : {V : Type 0} (n : ℕ) (pairs : List (ℕ × V)) → length pairs ≡ length (without n pairs) + (if is_some (value_at n pairs) then 1 else 0)
+length-without n [] = refl
+length-without n (p ∷ ps) =
+    by_order p.0 n (λ _ ne _. rw ne (omega (arith, length-without n ps))) (λ _ e _. rw e (omega arith)) (λ _ ne _. rw ne (omega (arith, length-without n ps)))
+
+-- the capacity stays, and the length falls by one or stays
+given_back : (there : Bool) (room len len' : ℕ) → len ≤ room → len ≡ len' + (if there then 1 else 0) → room - len' ≡ (if there then room - len + 1 else room - len)
+given_back true room len len' fits e = omega arith
+given_back false room len len' fits e = omega arith
+
+-- A cut of a vector that keeps its memory leaves one spare place more for a name that is there.
+pub spare-after_cut : {V : Type 0} (n : ℕ) (old new : List (ℕ × V)) (room room' len len' : ℕ) → len ≡ length old → len' ≡ length new → len ≤ room → room' ≡ room → new ≡ without n old
+    → room' - len' ≡ (if is_some (value_at n old) then room - len + 1 else room - len)
+spare-after_cut n old new room room' len len' at_first at_last fits same cut =
+    let shorter : len ≡ len' + (if is_some (value_at n old) then 1 else 0) =
+    at_first ∙ length-without n old ∙ ap (λ k. k + (if is_some (value_at n old) then 1 else 0)) (sym (at_last ∙ ap length cut)) in
+    ap (λ k. k - len') same ∙ given_back (is_some (value_at n old)) room len len' fits shorter

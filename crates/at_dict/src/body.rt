@@ -1,8 +1,9 @@
 //! A dictionary: a map from names to values with spare places.
-ghost use Rattle.std.specs.Prelude.{◌≡◌, ◌<◌, ◌≤◌, ◌-◌, ◌↔◌, ◌⊎◌, [], IsTrue, IsOk, IsSome, is_some, if◌then◌else◌, length, OnOk, OnErr, slice_get};
+ghost use Rattle.std.specs.Prelude.{◌≡◌, ◌<◌, ◌≤◌, ◌↔◌, ◌⊎◌, [], IsTrue, IsOk, IsSome, length, OnOk, OnErr, slice_get};
 ghost use Rattle.at_value.specs.Pairs.{IsRising, value_at, with_value, without};
+ghost use Rattle.at_dict.specs.Dictionary.{spare_with, spare_without};
 
-use at_value::{Name, Pairs, Value};
+use at_value::{Name, Value, sorted};
 use std::alloc::{AllocError, Global};
 use std::marker::Model;
 
@@ -35,12 +36,12 @@ impl Body {
         }
     }
 
-    /// Makes at least k spare places; those that there are stay. It fails only where there are fewer and memory is
-    /// refused, and then nothing changes.
+    /// Makes at least k spare places; none is lost. It fails only where there are fewer and memory is refused, and then
+    /// nothing changes.
     pub fn reserve(&mut self, k: usize) -> Result<(), AllocError>
         ensures map { self.new.map ≡ self.old.map }
         ensures ok { OnOk result (k ≤ self.new.spare) }
-        ensures kept { self.old.spare ≤ self.new.spare }
+        ensures spare { self.old.spare ≤ self.new.spare }
         ensures enough { k ≤ self.old.spare → IsOk result }
         ensures err { OnErr result (self.new ≡ self.old) }
     {
@@ -66,7 +67,7 @@ impl Body {
     pub fn get(&self, n: Name) -> Option<Value>
         ensures { result ≡ value_at n self.now.map }
     {
-        Pairs::value_in(n, &self.items)
+        sorted::get(n, &self.items)
     }
 
     /// Puts the value under the name, in the place of what stood there. A name that isn't there takes one spare place,
@@ -74,19 +75,19 @@ impl Body {
     pub fn put(&mut self, n: Name, v: Value)
         requires { IsSome (value_at n self.old.map) ⊎ (0 < self.old.spare) }
         ensures map { self.new.map ≡ with_value n v self.old.map }
-        ensures spare { self.new.spare ≡ (if is_some (value_at n self.old.map) then self.old.spare else self.old.spare - 1) }
+        ensures spare { self.new.spare ≡ spare_with n self.old }
     {
         // There is room, so this is Ok.
-        let _ = Pairs::put_in(n, v, &mut self.items);
+        let _ = sorted::put(n, v, &mut self.items);
     }
 
-    /// Takes the name out, and gives the value that stood there. Of the number of spare places afterwards nothing is
-    /// promised.
+    /// Takes the name out, and gives the value that stood there. The place of a name that was there is spare then.
     pub fn cut(&mut self, n: Name) -> Option<Value>
         ensures value { result ≡ value_at n self.old.map }
         ensures map { self.new.map ≡ without n self.old.map }
+        ensures spare { self.new.spare ≡ spare_without n self.old }
     {
-        Pairs::cut_in(n, &mut self.items)
+        sorted::cut(n, &mut self.items)
     }
 
     /// The pair at this index by rising name number, and none exactly from the length on.

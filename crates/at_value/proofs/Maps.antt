@@ -90,21 +90,21 @@ module _ {V : Type 0} where
   pub cut_elsewhere : (m n : ℕ) (pairs : List (ℕ × V)) → m ≢ n → value_at m (without n pairs) ≡ value_at m pairs
   cut_elsewhere m n [] h = refl
   cut_elsewhere m n (p ∷ ps) h =
-      let kept : value_at m (p ∷ without n ps) ≡ value_at m (p ∷ ps) = ap (λ o. if p.0 == m then Some p.1 else o) (cut_elsewhere m n ps h) in
-      by_order p.0 n (λ _ ne _. rw ne kept) (λ _ e same. let ne : (p.0 == m) ≡ false = rw (← same) at (other_tells m n h) in rw (e, ne) refl) (λ _ ne _. rw ne kept)
+      let unchanged : value_at m (p ∷ without n ps) ≡ value_at m (p ∷ ps) = ap (λ o. if p.0 == m then Some p.1 else o) (cut_elsewhere m n ps h) in
+      by_order p.0 n (λ _ ne _. rw ne unchanged) (λ _ e same. let ne : (p.0 == m) ≡ false = rw (← same) at (other_tells m n h) in rw (e, ne) refl) (λ _ ne _. rw ne unchanged)
 
   -- what is left is above what all were above
   without-above : (m n : ℕ) (pairs : List (ℕ × V)) → AreAbove m pairs → AreAbove m (without n pairs)
   without-above m n [] h = tt
   without-above m n (p ∷ ps) h =
-      let kept : AreAbove m (p ∷ without n ps) = (h.0, without-above m n ps h.1) in
-      by_order p.0 n (λ _ ne _. rw ne kept) (λ _ e _. rw e h.1) (λ _ ne _. rw ne kept)
+      let preserved : AreAbove m (p ∷ without n ps) = (h.0, without-above m n ps h.1) in
+      by_order p.0 n (λ _ ne _. rw ne preserved) (λ _ e _. rw e h.1) (λ _ ne _. rw ne preserved)
 
   pub cut_rising : (n : ℕ) (pairs : List (ℕ × V)) → IsRising pairs → IsRising (without n pairs)
   cut_rising n [] h = tt
   cut_rising n (p ∷ ps) h =
-      let kept : IsRising (p ∷ without n ps) = (without-above p.0 n ps h.0, cut_rising n ps h.1) in
-      by_order p.0 n (λ _ ne _. rw ne kept) (λ _ e _. rw e h.1) (λ _ ne _. rw ne kept)
+      let preserved : IsRising (p ∷ without n ps) = (without-above p.0 n ps h.0, cut_rising n ps h.1) in
+      by_order p.0 n (λ _ ne _. rw ne preserved) (λ _ e _. rw e h.1) (λ _ ne _. rw ne preserved)
 
 pub map_laws : {V : Type 0} → MapLaws V
 map_laws = record {

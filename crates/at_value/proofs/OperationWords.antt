@@ -168,7 +168,7 @@ head_back k s t n k_fits s_fits t_fits n_fits =
       mod_low 0 attribute_bits n n_fits,
     ) refl
 
--- classes are read back, where so many bits hold each
+-- classes are read back, where the width holds each
 classes_back : (width : ℕ) → classes ≤ 2 ^ width → (bases : List ℕ) → AreClasses bases → classes_in width (length bases) (number_of (row_fields width bases)) ≡ Some bases
 classes_back width wide [] h = refl
 classes_back width wide (c ∷ cs) h =
@@ -177,7 +177,7 @@ classes_back width wide (c ∷ cs) h =
     let high = shr_high (number_of (row_fields width cs)) width c small in
     rw (low, high, below_gives _ c (h 0), classes_back width wide cs (λ i. h (suc i))) refl
 
--- and from several words, where so many a word hold them all
+-- and from several words, where `each` a word hold them all
 rows_back : (width each : ℕ) → classes ≤ 2 ^ width → (words : ℕ) (bases : List ℕ) → AreClasses bases → length bases ≤ words * each
     → classes_of_words width each (length bases) (map number_of (rows_fields width each words bases)) ≡ Some bases
 rows_back width each wide zero [] h fits = refl
@@ -269,7 +269,7 @@ two_unused = (unused, (unused, tt))
 three_unused : FitWords ([] ∷ [] ∷ [] ∷ [])
 three_unused = (unused, two_unused)
 
--- classes in a row fit, where so many bits hold each
+-- classes in a row fit, where the width holds each
 row_within : (width : ℕ) → classes ≤ 2 ^ width → (bases : List ℕ) → AreClasses bases → AreWithin (row_fields width bases)
 row_within width wide [] h = tt
 row_within width wide (c ∷ cs) h = (omega (arith, h 0), row_within width wide cs (λ i. h (suc i)))
@@ -278,7 +278,7 @@ row_bits : (width : ℕ) (bases : List ℕ) → bits_of (row_fields width bases)
 row_bits width [] = omega arith
 row_bits width (c ∷ cs) = let rest = row_bits width cs in omega arith
 
--- and in rows, where so many of them have room in a word
+-- and in rows, where `each` of them have room in a word
 rows_fit : (width each : ℕ) → classes ≤ 2 ^ width → width * each ≤ 64 → (words : ℕ) (bases : List ℕ) → AreClasses bases → FitWords (rows_fields width each words bases)
 rows_fit width each wide room zero bases h = tt
 rows_fit width each wide room (suc words) bases h =

@@ -4,7 +4,7 @@ use Rattle.std.proofs.Common.{arith, ◌∙◌, ap, take-append-drop, length-tak
 use Rattle.at_value.specs.declared.list.Bases.TheInside.{Inside}
 use Rattle.at_value.specs.Widths.{most_bases}
 
--- the cells of a list of at most so many numbers as a class may have bases: its numbers, and then zeros
+-- the cells of a list of no more numbers than a class may have bases: its numbers, and then zeros
 abbrev pub cells_of : List ℕ → List ℕ
 cells_of list = list ++ replicate (most_bases - length list) 0
 

@@ -18,6 +18,10 @@ getattr = 3
 abbrev pub init : ℕ
 init = 4
 
+-- how many special names there are
+abbrev pub special_names : ℕ
+special_names = 5
+
 -- the class `object`
 abbrev pub object : ℕ
 object = 0

@@ -45,11 +45,11 @@ abbrev pub heading_fields : ℕ → ℕ → ℕ → ℕ → List Field
 heading_fields kind subject second name =
     field operation_bits kind ∷ field subject_bits subject ∷ field second_bits second ∷ field attribute_bits name ∷ []
 
--- numbers in one word, each in so many bits, the first from bit 0 on
+-- numbers in one word, each in a field of the width, the first from bit 0 on
 abbrev pub row_fields : ℕ → List ℕ → List Field
 row_fields width numbers = map (field width) numbers
 
--- numbers in so many words, each number in so many bits and so many numbers a word, the first in word 0 from bit 0 on
+-- numbers in words, `each` a word and each number in a field of the width, the first in word 0 from bit 0 on
 abbrev pub rows_fields : (width each words : ℕ) → List ℕ → List (List Field)
 rows_fields width each zero numbers = []
 rows_fields width each (suc words) numbers = row_fields width (take each numbers) ∷ rows_fields width each words (drop each numbers)

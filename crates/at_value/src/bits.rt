@@ -1,7 +1,6 @@
 //! Fields of bits in a word of 64 bits.
 ghost use Rattle.std.specs.Prelude.{◌≡◌, ◌<◌, ◌+◌, ◌-◌, ◌*◌, ◌/◌, ◌%◌, ◌^◌};
 
-/// The word with `low` in its lowest `width` bits, and `above` above them.
 pub(crate) fn joined(above: u64, width: u32, low: u64) -> u64
     requires width { width < 64 }
     requires low { low < 2 ^ width }
@@ -11,7 +10,6 @@ pub(crate) fn joined(above: u64, width: u32, low: u64) -> u64
     above << width | low
 }
 
-/// The number in the lowest `width` bits of a word, and the number above them.
 pub(crate) fn split(word: u64, width: u32) -> (u64, u64)
     requires { width < 64 }
     ensures low { result.0 ≡ word % 2 ^ width }

@@ -11,6 +11,7 @@ mod packing;
 mod pairs;
 mod reply;
 mod sequence;
+pub mod sorted;
 #[cfg(test)]
 mod tests;
 mod value;

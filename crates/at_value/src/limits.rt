@@ -5,7 +5,7 @@ ghost use Rattle.at_value.specs.ProgramLimits.{program_limits};
 /// How far the counted words of a run may go.
 #[derive(Clone, Copy, Debug, PartialEq, Eq)]
 pub struct Limits {
-    /// From this place on no write is made: there are at most so many writes, up to 4,294,967,295.
+    /// From this place on no write is made, so there are at most this many writes. It is at most 4,294,967,295.
     pub place_max: u64,
     /// An object isn't opened for writing once its sequence has come to this even number, at most 1,099,511,627,774.
     pub head_max: u64,

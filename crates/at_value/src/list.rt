@@ -1,15 +1,25 @@
 //! Short lists of classes. Contracts see each as the list of the classes' numbers.
-ghost use Rattle.std.specs.Prelude.{◌≡◌, ◌<◌, ◌≤◌, ℕ, List, [], ◌∷◌, ◌++◌, length, IfOk, IsTrue, ◌↔◌, OnOk, OnErr, slice_get};
+ghost use Rattle.std.specs.Prelude.{◌≡◌, ◌<◌, ◌≤◌, ℕ, List, [], ◌∷◌, ◌++◌, length, IfOk, IsOk, IsTrue, ◌↔◌, OnOk, OnErr, slice_get};
 ghost use Rattle.at_value.specs.Classes.{AreClasses};
 ghost use Rattle.at_value.specs.Widths.{most_bases};
 
 use crate::number::Class;
 use std::alloc::{AllocError, Global};
+use std::error::Error;
+use std::fmt;
 use std::marker::Model;
 
 /// The answer to a ninth base.
 #[derive(Clone, Copy, Debug, PartialEq, Eq)]
 pub struct BasesFull;
+
+impl fmt::Display for BasesFull {
+    fn fmt<W: fmt::Write>(&self, f: &mut fmt::Formatter<W>) -> fmt::Result {
+        write!(f, "a class has at most eight bases")
+    }
+}
+
+impl Error for BasesFull {}
 
 /// The bases of a class: at most eight classes, in order. Unused cells hold class 0.
 #[derive(Clone, Copy, Debug, PartialEq, Eq)]
@@ -120,25 +130,27 @@ impl Model for ClassList {
 }
 
 impl ClassList {
-    /// A list of these classes.
+    /// A list of these classes. The empty list takes no memory.
     pub fn copy_of(alloc: Global, list: &[Class]) -> Result<ClassList, AllocError>
-        ensures { IfOk result (λ copy. copy ≡ list.now) }
+        ensures copied { IfOk result (λ copy. copy ≡ list.now) }
+        ensures empty { list.now ≡ [] → IsOk result }
     {
         let mut items = Vec::with_capacity(alloc, list.len())?;
         for class in list {
-            items.push(class.number() as u8)?;
+            items.push_reserved(class.number() as u8);
         }
         Ok(ClassList { items })
     }
 
-    /// The list of the classes with these numbers.
+    /// The list of the classes with these numbers. The empty list takes no memory.
     pub fn of_numbers(alloc: Global, numbers: &[u16]) -> Result<ClassList, AllocError>
         requires { AreClasses numbers.now }
-        ensures { IfOk result (λ list. list ≡ numbers.now) }
+        ensures copied { IfOk result (λ list. list ≡ numbers.now) }
+        ensures empty { numbers.now ≡ [] → IsOk result }
     {
         let mut items = Vec::with_capacity(alloc, numbers.len())?;
         for i in 0..numbers.len() {
-            items.push(numbers[i] as u8)?;
+            items.push_reserved(numbers[i] as u8);
         }
         Ok(ClassList { items })
     }

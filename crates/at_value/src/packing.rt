@@ -53,11 +53,11 @@ const SECOND_BITS: u32 = 16;
 
 const ATTRIBUTE_BITS: u32 = 16;
 
-/// In how many bits a base stands.
 const BASE_BITS: u32 = 8;
 
-/// How many bases stand in one word.
 const BASES_A_WORD: usize = 8;
+
+const BASES_WORDS: usize = 3;
 
 /// What word 0 of an operation has: its kind, the class or object that it is done to, a second number, and a name.
 #[derive(Clone, Copy)]
@@ -68,7 +68,6 @@ struct Heading {
     name: u64,
 }
 
-/// Word 0 with these fields.
 fn heading_word(kind: u64, subject: u16, second: u16, name: u16) -> u64
     requires { kind < 2 ^ operation_bits }
     ensures { result ≡ number_of (heading_fields kind subject second name) }
@@ -78,7 +77,7 @@ fn heading_word(kind: u64, subject: u16, second: u16, name: u16) -> u64
     joined(word, OPERATION_BITS, kind)
 }
 
-/// The fields of word 0. The bits above them aren't read.
+/// The bits above the fields aren't read.
 fn heading_of(word: u64) -> Heading
     ensures { result ≡ heading_at word }
 {
@@ -94,7 +93,6 @@ fn heading_of(word: u64) -> Heading
     }
 }
 
-/// The bases of one word, the first in the lowest bits.
 fn word_of_row(row: &[Class]) -> u64
     requires { length row.now ≤ bases_a_word }
     ensures word { result ≡ number_of (row_fields base_bits row.now) }
@@ -107,7 +105,6 @@ fn word_of_row(row: &[Class]) -> u64
     word
 }
 
-/// The bases that go into one word, and those that are left.
 fn row_of(bases: &[Class]) -> (&[Class], &[Class])
     ensures row { result.0.now ≡ take bases_a_word bases.now }
     ensures left { result.1.now ≡ drop bases_a_word bases.now }
@@ -115,8 +112,7 @@ fn row_of(bases: &[Class]) -> (&[Class], &[Class])
     bases.split_at(bases.len().min(BASES_A_WORD))
 }
 
-/// Bases in three words, so many a word, the first in the lowest bits of the first word.
-fn words_of_bases(bases: &[Class]) -> [u64; 3]
+fn words_of_bases(bases: &[Class]) -> [u64; BASES_WORDS]
     requires { length bases.now ≤ most_bases }
     ensures words { result ≡ map number_of (bases_fields bases.now) }
     ensures range { AreClasses bases.now }
@@ -127,10 +123,10 @@ fn words_of_bases(bases: &[Class]) -> [u64; 3]
     [word_of_row(first), word_of_row(second), word_of_row(third)]
 }
 
-/// Puts so many bases from a word after those that are there. It is none exactly where one of them is no class.
 fn read_row(bases: &mut Bases, count: usize, word: u64) -> Option<()>
     requires { length bases.old + count ≤ most_bases }
-    ensures some { OnSome result (option_map (λ row. bases.old ++ row) (classes_in base_bits count word) ≡ Some bases.new) }
+    ensures some { OnSome result
+        (option_map (λ row. bases.old ++ row) (classes_in base_bits count word) ≡ Some bases.new) }
     ensures none { IfNone result (classes_in base_bits count word ≡ None) }
 {
     let mut left = word;
@@ -142,8 +138,7 @@ fn read_row(bases: &mut Bases, count: usize, word: u64) -> Option<()>
     Some(())
 }
 
-/// So many bases in these words, and none exactly where they are more than eight, or one of them is no class.
-fn bases_of(count: u64, words: &[u64; 3]) -> Option<Bases>
+fn bases_of(count: u64, words: &[u64; BASES_WORDS]) -> Option<Bases>
     ensures { result ≡ bases_from count words.now }
 {
     let mut left = count as usize;
@@ -185,7 +180,6 @@ pub fn pack(op: &Op) -> [u64; 4]
     }
 }
 
-/// The words with these fields in word 0, and this word 1.
 fn packed(kind: u64, subject: u16, second: u16, name: u16, first: u64) -> [u64; 4]
     requires { kind < 2 ^ operation_bits }
     ensures { result ≡ number_of (heading_fields kind subject second name) ∷ first ∷ 0 ∷ 0 ∷ [] }
@@ -193,10 +187,10 @@ fn packed(kind: u64, subject: u16, second: u16, name: u16, first: u64) -> [u64; 
     [heading_word(kind, subject, second, name), first, 0, 0]
 }
 
-/// The words of an operation of this kind that gives a class these bases.
 fn packed_bases(kind: u64, c: Class, bases: &Bases) -> [u64; 4]
     requires { kind < 2 ^ operation_bits }
-    ensures words { result ≡ number_of (heading_fields kind c (length bases.now) 0) ∷ map number_of (bases_fields bases.now) }
+    ensures words { result
+        ≡ number_of (heading_fields kind c (length bases.now) 0) ∷ map number_of (bases_fields bases.now) }
     ensures range { IsClass c × IsBases bases.now }
 {
     let heading = heading_word(kind, c.number(), bases.len() as u16, 0);
@@ -204,10 +198,8 @@ fn packed_bases(kind: u64, c: Class, bases: &Bases) -> [u64; 4]
     [heading, words[0], words[1], words[2]]
 }
 
-/// The operation with this heading and these words after it, whatever the fields have that it doesn't use. It is none
-/// exactly where the kind is none of the fifteen, a number is out of its range, there are more than eight bases, or the
-/// word of the value is no value's.
-fn read_op(heading: Heading, words: &[u64; 3]) -> Option<Op>
+/// Fields that the operation doesn't use may have anything.
+fn read_op(heading: Heading, words: &[u64; BASES_WORDS]) -> Option<Op>
     ensures { result ≡ op_at heading words.now }
 {
     let Heading {

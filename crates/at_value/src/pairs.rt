@@ -1,9 +1,10 @@
 //! A map from names to values. Contracts see it as the list of its pairs by rising name number.
-ghost use Rattle.std.specs.Prelude.{◌≡◌, ◌<◌, ◌≤◌, ◌↔◌, List, [], IsTrue, IfOk, IsOk, IsSome, length, OnOk, OnErr, slice_get, vec_len, vec_capacity};
-ghost use Rattle.at_value.specs.Pairs.{IsRising, value_at, with_value, without, place_in, MapLaws};
+ghost use Rattle.std.specs.Prelude.{◌≡◌, ◌↔◌, List, [], IsTrue, IfOk, IsOk, IsSome, length, OnOk, OnErr, slice_get};
+ghost use Rattle.at_value.specs.Pairs.{IsRising, value_at, with_value, without, MapLaws};
 ghost use Rattle.at_value.specs.declared.value.Value as value;
 
 use crate::number::Name;
+use crate::sorted;
 use crate::value::Value;
 use std::alloc::{AllocError, Global};
 use std::marker::Model;
@@ -45,13 +46,14 @@ impl Pairs {
         Pairs { items }
     }
 
-    /// A map of its own with the same names and values.
+    /// A map of its own with the same names and values. Without names it takes no memory.
     pub fn copy(&self, alloc: Global) -> Result<Pairs, AllocError>
-        ensures { IfOk result (λ copy. copy ≡ self.now) }
+        ensures copied { IfOk result (λ copy. copy ≡ self.now) }
+        ensures empty { self.now ≡ [] → IsOk result }
     {
-        Ok(Pairs {
-            items: Vec::from_slice(alloc, &self.items)?,
-        })
+        let mut items = Vec::with_capacity(alloc, self.items.len())?;
+        items.extend_from_slice(&self.items)?;
+        Ok(Pairs { items })
     }
 
     /// How many names there are.
@@ -80,16 +82,17 @@ impl Pairs {
     pub fn get(&self, n: Name) -> Option<Value>
         ensures { result ≡ value_at n self.now }
     {
-        Self::value_in(n, &self.items)
+        sorted::get(n, &self.items)
     }
 
-    /// Puts the value under the name, in the place of what stood there. It fails only for want of memory, and then
-    /// nothing changes.
+    /// Puts the value under the name, in the place of what stood there. It fails only where the name isn't there and
+    /// memory is refused, and then nothing changes.
     pub fn put(&mut self, n: Name, v: Value) -> Result<(), AllocError>
         ensures ok { OnOk result (self.new ≡ with_value n v self.old) }
         ensures err { OnErr result (self.new ≡ self.old) }
+        ensures there { IsSome (value_at n self.old) → IsOk result }
     {
-        Self::put_in(n, v, &mut self.items)
+        sorted::put(n, v, &mut self.items)
     }
 
     /// Takes the name out, and gives the value that stood there.
@@ -97,66 +100,7 @@ impl Pairs {
         ensures value { result ≡ value_at n self.old }
         ensures rest { self.new ≡ without n self.old }
     {
-        Self::cut_in(n, &mut self.items)
-    }
-}
-
-/// The same over a slice or a vector of pairs by rising name number, for a map that keeps its vector itself.
-impl Pairs {
-    /// The index of the first name from n on, and the length where there is none. The search is binary.
-    pub fn place_of(n: Name, items: &[(Name, Value)]) -> usize
-        requires { IsRising items.now }
-        ensures place { result ≡ place_in n items.now }
-        ensures within { result ≤ length items.now }
-    {
-        items.partition_point(|pair| pair.0 < n)
-    }
-
-    /// The value under the name, and none exactly where the name isn't there.
-    pub fn value_in(n: Name, items: &[(Name, Value)]) -> Option<Value>
-        requires { IsRising items.now }
-        ensures { result ≡ value_at n items.now }
-    {
-        let place = Self::place_of(n, items);
-        if is_at(n, place, items) {
-            Some(items[place].1)
-        } else {
-            None
-        }
-    }
-
-    /// Puts the value under the name. It takes memory only for a name that isn't there, and only where the vector has
-    /// no room; it fails only for want of that memory, and then nothing changes.
-    pub fn put_in(n: Name, v: Value, items: &mut Vec<(Name, Value)>) -> Result<(), AllocError>
-        requires { IsRising items.old.items }
-        ensures rising { IsRising items.new.items }
-        ensures ok { OnOk result (items.new.items ≡ with_value n v items.old.items) }
-        ensures err { OnErr result (items.new.items ≡ items.old.items) }
-        ensures there { IsSome (value_at n items.old.items) → IsOk result × (vec_capacity items.new ≡ vec_capacity items.old) }
-        ensures room { vec_len items.old < vec_capacity items.old → IsOk result × (vec_capacity items.new ≡ vec_capacity items.old) }
-    {
-        let place = Self::place_of(n, items);
-        if is_at(n, place, items) {
-            items[place].1 = v;
-        } else {
-            items.insert(place, (n, v))?;
-        }
-        Ok(())
-    }
-
-    /// Takes the name out, and gives the value that stood there.
-    pub fn cut_in(n: Name, items: &mut Vec<(Name, Value)>) -> Option<Value>
-        requires { IsRising items.old.items }
-        ensures rising { IsRising items.new.items }
-        ensures value { result ≡ value_at n items.old.items }
-        ensures rest { items.new.items ≡ without n items.old.items }
-    {
-        let place = Self::place_of(n, items);
-        if is_at(n, place, items) {
-            Some(items.remove(place).1)
-        } else {
-            None
-        }
+        sorted::cut(n, &mut self.items)
     }
 
     /// What is true of every map: a change is read back at its name and nowhere else, and the names stay rising. It
@@ -164,17 +108,4 @@ impl Pairs {
     pub fn map_laws()
         ensures { MapLaws value.Value }
     {}
-}
-
-/// Whether the name stands at this index, where only the first name from n on may be asked for.
-fn is_at(n: Name, place: usize, items: &[(Name, Value)]) -> bool
-    requires rising { IsRising items.now }
-    requires place { place ≡ place_in n items.now }
-    ensures there { IsTrue result ↔ IsSome (value_at n items.now) }
-    ensures within { IsTrue result → place < length items.now }
-{
-    match items.get(place) {
-        Some(pair) => pair.0 == n,
-        None => false,
-    }
 }

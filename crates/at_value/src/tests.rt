@@ -3,6 +3,7 @@ mod words;
 
 use crate::{
     Bases, BasesFull, Class, ClassList, Func, Limits, Name, Obj, Op, Pairs, Prop, Sequence, Value,
+    sorted,
 };
 use std::alloc::AllocError;
 use std::mem::size_of;
@@ -114,11 +115,11 @@ fn a_map_keeps_its_names_rising(rt: HostRuntime) -> Result<(), AllocError> {
 #[test]
 fn a_vector_of_pairs_is_a_map_too(rt: HostRuntime) -> Result<(), AllocError> {
     let mut pairs = vec![in rt.alloc(); (Name::descriptor_set(), Value::Int(1))]?;
-    assert_eq!(rt; Pairs::place_of(Name::descriptor_delete(), &pairs), 1);
-    Pairs::put_in(Name::init(), Value::Int(4), &mut pairs)?;
-    assert_eq!(rt; Pairs::value_in(Name::init(), &pairs), Some(Value::Int(4)));
+    assert_eq!(rt; sorted::place_of(Name::descriptor_delete(), &pairs), 1);
+    sorted::put(Name::init(), Value::Int(4), &mut pairs)?;
+    assert_eq!(rt; sorted::get(Name::init(), &pairs), Some(Value::Int(4)));
     assert_eq!(rt;
-        Pairs::cut_in(Name::descriptor_set(), &mut pairs),
+        sorted::cut(Name::descriptor_set(), &mut pairs),
         Some(Value::Int(1))
     );
     assert_eq!(rt; Pairs::of(pairs).len(), 1);

@@ -11,7 +11,7 @@ use std::marker::Model;
 /// A property: a function for reading, one for writing and one for deleting, each where it is given, after the
 /// built-in `property` of Python. Contracts see a record of three options, `get`, `set` and `del`.
 ///
-/// Each part is kept as the function's number and one more, and 0 where it isn't given, so that a `Value` stays small.
+/// Each part is stored as the function's number and one more, and 0 where it isn't given, so that a `Value` stays small.
 #[derive(Clone, Copy, Debug, PartialEq, Eq)]
 pub struct Prop {
     get: u16,
@@ -36,7 +36,6 @@ impl Model for Prop {
 }
 
 impl Prop {
-    /// In how many bits of a number a part stands.
     const PART_BITS: u32 = 16;
 
     /// The greatest number that holds a part.
@@ -74,7 +73,6 @@ impl Prop {
         part_at(self.del)
     }
 
-    /// The three parts in one number: the one that reads in the lowest bits, then those that write and delete.
     pub(crate) fn number(self) -> u64
         ensures same { result ≡ (held self.del * 2 ^ part_bits + held self.set) * 2 ^ part_bits + held self.get }
         ensures range { result < 2 ^ (3 * part_bits) }
@@ -84,7 +82,6 @@ impl Prop {
         joined(above, Self::PART_BITS, u64::from(self.get))
     }
 
-    /// The property with these parts in one number, and none exactly where the number isn't that of a property.
     pub(crate) fn of_number(n: u64) -> Option<Prop>
         ensures { result ≡ parts_at n }
     {
@@ -102,7 +99,6 @@ impl Prop {
     }
 }
 
-/// The number that holds a part.
 fn held_part(part: Option<Func>) -> u16
     ensures same { result ≡ held part }
     ensures range { result ≤ functions }
@@ -113,7 +109,6 @@ fn held_part(part: Option<Func>) -> u16
     }
 }
 
-/// The part that a number holds.
 fn part_at(number: u16) -> Option<Func>
     requires { number ≤ functions }
     ensures { result ≡ part number }

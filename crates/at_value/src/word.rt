@@ -12,7 +12,6 @@ use crate::bits::{joined, split};
 use crate::number::{Class, Func, Name, Obj};
 use crate::value::{Prop, Value};
 
-/// In how many bits the kind of a value stands.
 const KIND_BITS: u32 = 4;
 
 // The kinds of values, as their words have them.
@@ -34,7 +33,6 @@ const CLASS: u64 = 8;
 
 const OBJ: u64 = 9;
 
-/// The kind of a value.
 fn kind_of(v: &Value) -> u64
     ensures same { result ≡ word_of v.now % 2 ^ kind_bits }
     ensures positive { 0 < result }
@@ -52,7 +50,6 @@ fn kind_of(v: &Value) -> u64
     }
 }
 
-/// The bits of an integer in two's complement, and 0 for any other value.
 fn integer_of(v: Value) -> u32
     ensures { result ≡ integer_in v }
 {
@@ -62,7 +59,6 @@ fn integer_of(v: Value) -> u32
     }
 }
 
-/// The number of a text, a function, a class or an object, and 0 for any other value.
 fn index_of(v: Value) -> u16
     ensures { result ≡ index_in v }
 {
@@ -75,8 +71,7 @@ fn index_of(v: Value) -> u16
     }
 }
 
-/// The number above the kind in the word of a value. Like numbers are taken together, so that the built code needs no
-/// table of the kinds.
+/// Like numbers are taken together, so that the built code needs no table of the kinds.
 fn rest_of(v: Value) -> u64
     ensures same { result ≡ word_of v / 2 ^ kind_bits }
     ensures range { IsValue v }
@@ -104,35 +99,30 @@ pub fn to_word(v: Value) -> u64
     joined(rest_of(v), KIND_BITS, kind)
 }
 
-/// The name with this number, and none exactly from 4,096 on.
 pub(crate) fn name_at(n: u64) -> Option<Name>
     ensures { result ≡ below names n }
 {
     Name::new(u16::try_from(n).ok()?)
 }
 
-/// The function with this number, and none exactly from 1,024 on.
 fn func_at(n: u64) -> Option<Func>
     ensures { result ≡ below functions n }
 {
     Func::new(u16::try_from(n).ok()?)
 }
 
-/// The class with this number, and none exactly from 255 on.
 pub(crate) fn class_at(n: u64) -> Option<Class>
     ensures { result ≡ below classes n }
 {
     Class::new(u16::try_from(n).ok()?)
 }
 
-/// The object with this number, and none exactly from 4,096 on.
 pub(crate) fn object_at(n: u64) -> Option<Obj>
     ensures { result ≡ below objects n }
 {
     Obj::new(u16::try_from(n).ok()?)
 }
 
-/// The integer that has these 32 bits in two's complement, and none exactly where the number has more bits.
 fn int_at(n: u64) -> Option<Value>
     ensures { result ≡ option_map (λ bits. value.Int (cast_signed w32 bits)) (below (2 ^ integer_bits) n) }
 {
@@ -140,7 +130,7 @@ fn int_at(n: u64) -> Option<Value>
     Some(Value::Int(bits.cast_signed()))
 }
 
-/// The value of a kind up to that of texts: nothing, an integer or a text.
+/// The kind is that of nothing, integers or texts.
 fn simple_value(kind: u64, rest: u64) -> Option<Value>
     requires first { 1 ≤ kind }
     requires last { kind ≤ 3 }
@@ -154,7 +144,7 @@ fn simple_value(kind: u64, rest: u64) -> Option<Value>
     }
 }
 
-/// The value of this kind, one of the three that have a function.
+/// The kind is that of functions, staticmethods or classmethods.
 fn function_value(kind: u64, f: Func) -> Value
     requires first { 4 ≤ kind }
     requires last { kind ≤ 7 }
@@ -168,7 +158,6 @@ fn function_value(kind: u64, f: Func) -> Value
     }
 }
 
-/// The value of the kind of classes, or of objects.
 fn class_or_object(kind: u64, rest: u64) -> Option<Value>
     requires first { 8 ≤ kind }
     requires last { kind ≤ 9 }
@@ -180,8 +169,7 @@ fn class_or_object(kind: u64, rest: u64) -> Option<Value>
     }
 }
 
-/// The value of this kind with this number above the kind, and none exactly where there is no such value. The kinds are
-/// told apart a few at a time, so that the built code needs no table of them.
+/// The kinds are told apart a few at a time, so that the built code needs no table of them.
 fn value_of_kind(kind: u64, rest: u64) -> Option<Value>
     ensures { result ≡ value_at_kind kind rest }
 {
@@ -194,7 +182,6 @@ fn value_of_kind(kind: u64, rest: u64) -> Option<Value>
     }
 }
 
-/// The value in a word, and none exactly where there is none.
 pub(crate) fn read_value(w: u64) -> Option<Value>
     ensures { result ≡ value_in_word w }
 {

@@ -1,5 +1,6 @@
 //! Words of values and of operations, as numbers that were worked out by hand from the layouts.
 ghost use Rattle.std.specs.Prelude.{◌<◌};
+ghost use Rattle.at_value.specs.Widths as widths;
 
 use crate::{
     Bases, Class, Func, Name, Obj, Op, Prop, Value, from_word, pack, packing_laws, to_word, unpack,
@@ -9,25 +10,25 @@ use std::process::Abort;
 use std::test::Fail;
 
 fn name(n: u16) -> Name
-    requires { n < 4096 }
+    requires { n < widths.names }
 {
     Name::new(n).unwrap()
 }
 
 fn class(n: u16) -> Class
-    requires { n < 255 }
+    requires { n < widths.classes }
 {
     Class::new(n).unwrap()
 }
 
 fn object(n: u16) -> Obj
-    requires { n < 4096 }
+    requires { n < widths.objects }
 {
     Obj::new(n).unwrap()
 }
 
 fn function(n: u16) -> Func
-    requires { n < 1024 }
+    requires { n < widths.functions }
 {
     Func::new(n).unwrap()
 }

@@ -1,4 +1,4 @@
-use Rattle.std.proofs.Common.{◌≡◌, take}
+use Rattle.std.proofs.Common.{◌≡◌, ◌≤◌, take, length, vec_len, vec_capacity}
 use Rattle.at_value.specs.Classes.{AreClasses}
 use Rattle.at_value.proofs.list.ClassList.copy_of.Given as goal
 
@@ -7,4 +7,6 @@ abbrev pub invariant-loop-class : goal.invariant-loop-class
 invariant-loop-class l = record {
   same : l.items.items ≡ take l.class-index l.list;
   classes : AreClasses l.items.items;
+  room : length l.list ≤ vec_capacity l.items;
+  len : vec_len l.items ≡ l.class-index;
 }

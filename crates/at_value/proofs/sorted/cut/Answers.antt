@@ -2,7 +2,7 @@ use Rattle.std.proofs.Common.{◌∙◌, ap, sym, Some}
 use Rattle.std.specs.List.{remove}
 use Rattle.at_value.proofs.Places.{value, removed, none_from_test}
 use Rattle.at_value.proofs.Maps.{without-absent, cut_rising}
-use Rattle.at_value.proofs.pairs.Pairs.cut_in.Goals as goal
+use Rattle.at_value.proofs.sorted.cut.Goals as goal
 
 pub returns-then-is_at-clause-value : goal.returns-then-is_at-clause-value
 returns-then-is_at-clause-value c =

@@ -1,7 +1,7 @@
 use Rattle.std.proofs.Common.{rules, nat_lt}
 use Rattle.std.proofs.lemmas.List.Sorted.{IsPartitionPoint-from_clause}
 use Rattle.at_value.proofs.Places.{partitioned, place_from_partition}
-use Rattle.at_value.proofs.pairs.Pairs.place_of.Goals as goal
+use Rattle.at_value.proofs.sorted.place_of.Goals as goal
 
 pub returns-clause-place : goal.returns-clause-place
 returns-clause-place c =

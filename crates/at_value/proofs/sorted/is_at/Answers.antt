@@ -2,7 +2,7 @@ use Rattle.std.proofs.Common.{◌≡◌, ◌≤◌, ◌<◌, ◌==◌, ◌∙◌
 use Rattle.std.proofs.lemmas.Bool.Decides.{nat_tests}
 use Rattle.at_value.specs.Pairs.{value_at, place_in}
 use Rattle.at_value.proofs.Places.{tells, past, none_is_not_some}
-use Rattle.at_value.proofs.pairs.is_at.Goals as goal
+use Rattle.at_value.proofs.sorted.is_at.Goals as goal
 
 pub returns-in-Some-clause-there : goal.returns-in-Some-clause-there
 returns-in-Some-clause-there c =

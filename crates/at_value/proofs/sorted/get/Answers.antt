@@ -1,6 +1,6 @@
 use Rattle.std.proofs.Common.{sym}
 use Rattle.at_value.proofs.Places.{value}
-use Rattle.at_value.proofs.pairs.Pairs.value_in.Goals as goal
+use Rattle.at_value.proofs.sorted.get.Goals as goal
 
 pub returns-then-is_at : goal.returns-then-is_at
 returns-then-is_at c =

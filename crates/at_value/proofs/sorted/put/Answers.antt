@@ -3,7 +3,7 @@ use Rattle.std.specs.List.{insert}
 use Rattle.at_value.specs.Pairs.{place_in}
 use Rattle.at_value.proofs.Places.{within, replaced, inserted, none_from_test}
 use Rattle.at_value.proofs.Maps.{put_rising}
-use Rattle.at_value.proofs.pairs.Pairs.put_in.Goals as goal
+use Rattle.at_value.proofs.sorted.put.Goals as goal
 
 pub insert-requires : goal.insert-requires
 insert-requires c = omega (arith, within c.args.n c.deref.result.now)
