@@ -23,28 +23,28 @@ pub in_cons : {X : Type 0} (x : X) (xs : List X) (y : X) → Contains (x ∷ xs)
 in_cons x xs y h = at_cons x xs y h.0 h.1 h.2
 
 -- what stands before and after an element
-pub parted : {X : Type 0} (xs : List X) (x : X) → Contains xs x → (prefix : List X) × (back : List X) × (xs ≡ prefix ++ x ∷ back)
-parted [] x h = absurd (none_in x h)
-parted (y ∷ ys) x h =
+pub split_at : {X : Type 0} (xs : List X) (x : X) → Contains xs x → (prefix : List X) × (suffix : List X) × (xs ≡ prefix ++ x ∷ suffix)
+split_at [] x h = absurd (none_in x h)
+split_at (y ∷ ys) x h =
     ⊎_elim
     (λ e. ([], ys, ap (λ z. z ∷ ys) e))
-    (λ later. let p = parted ys x later in (y ∷ p.0, p.1, ap (λ zs. y ∷ zs) p.2))
+    (λ later. let p = split_at ys x later in (y ∷ p.0, p.1, ap (λ zs. y ∷ zs) p.2))
     (in_cons y ys x h)
 
 -- an element of a list with one more at its end is the last, or has its place in the list before
-pub parted_push : {X : Type 0} (xs : List X) (x : X) (prefix : List X) (y : X) (back : List X) → xs ++ x ∷ [] ≡ prefix ++ y ∷ back → ((xs ≡ prefix) × (x ≡ y)) ⊎ ((rest : List X) × (xs ≡ prefix ++ y ∷ rest))
-parted_push [] x [] y back e = inl (refl, cc)
-parted_push [] x (f ∷ prefix) y back e = absurd (omega (arith, ap length e, length-append prefix (y ∷ back)))
-parted_push (z ∷ zs) x [] y back e = let h : z ≡ y = cc in inr (zs, ap (λ w. w ∷ zs) h)
-parted_push (z ∷ zs) x (f ∷ prefix) y back e =
+pub split_push : {X : Type 0} (xs : List X) (x : X) (prefix : List X) (y : X) (suffix : List X) → xs ++ x ∷ [] ≡ prefix ++ y ∷ suffix → ((xs ≡ prefix) × (x ≡ y)) ⊎ ((rest : List X) × (xs ≡ prefix ++ y ∷ rest))
+split_push [] x [] y suffix e = inl (refl, cc)
+split_push [] x (f ∷ prefix) y suffix e = absurd (omega (arith, ap length e, length-append prefix (y ∷ suffix)))
+split_push (z ∷ zs) x [] y suffix e = let h : z ≡ y = cc in inr (zs, ap (λ w. w ∷ zs) h)
+split_push (z ∷ zs) x (f ∷ prefix) y suffix e =
     let h : z ≡ f = cc in
-    let t : zs ++ x ∷ [] ≡ prefix ++ y ∷ back = cc in
+    let t : zs ++ x ∷ [] ≡ prefix ++ y ∷ suffix = cc in
     ⊎_elim
     (λ p. inl ((ap (λ w. w ∷ zs) h ∙ ap (λ ws. f ∷ ws) p.0), p.1))
     (λ p. inr (p.0, (ap (λ w. w ∷ zs) h ∙ ap (λ ws. f ∷ ws) p.1)))
-    (parted_push zs x prefix y back t)
+    (split_push zs x prefix y suffix t)
 
 -- an element is where it stands
-pub in_middle : {X : Type 0} (prefix : List X) (x : X) (back : List X) → Contains (prefix ++ x ∷ back) x
-in_middle [] x back = in_here x back
-in_middle (f ∷ prefix) x back = in_there f (prefix ++ x ∷ back) x (in_middle prefix x back)
+pub in_middle : {X : Type 0} (prefix : List X) (x : X) (suffix : List X) → Contains (prefix ++ x ∷ suffix) x
+in_middle [] x suffix = in_here x suffix
+in_middle (f ∷ prefix) x suffix = in_there f (prefix ++ x ∷ suffix) x (in_middle prefix x suffix)

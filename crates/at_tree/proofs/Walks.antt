@@ -1,10 +1,11 @@
 -- The walk as a relation, and what is true of its list.
-use Rattle.std.proofs.Common.{◌≡◌, ◌≢◌, ◌↔◌, ℕ, ◌<◌, Bool, false, List, [], ◌∷◌, ◌++◌, length, All, AllPairs, Contains, ◌⊎◌, inl, inr, ⊎_elim, sym, subst, arith}
+use Rattle.std.proofs.Common.{◌≡◌, ◌≢◌, ◌↔◌, ℕ, ◌<◌, Bool, false, cond, List, [], ◌∷◌, ◌++◌, length, get_or, All, AllPairs, Contains, ◌⊎◌, inl, inr, ⊎_elim, sym, ap, ◌∙◌, append_assoc, subst, arith}
+use Rattle.std.proofs.lemmas.Bool.{cases_Bool, false≢true}
 use Rattle.std.proofs.lemmas.List.Elements.{Contains-append_left, Contains-push, Contains-push_cases, Contains-get_or}
 use Rattle.std.proofs.lemmas.List.Quantifiers.{all_pairs_push}
-use Rattle.at_tree.specs.Tree.{entered, IsPath, Reaches, IsTree}
-use Rattle.at_tree.specs.Walk.{IsWalk}
-use Rattle.at_tree.proofs.Members.{none_in, in_here, in_there, in_cons, in_middle, parted, parted_push}
+use Rattle.at_tree.specs.Tree.{children, entered, IsPath, Reaches, IsTree}
+use Rattle.at_tree.specs.Walk.{IsWalk, IsReachedFirst, AreClosed, IsUnmarkedFirst}
+use Rattle.at_tree.proofs.Members.{none_in, in_here, in_there, in_cons, in_middle, split_at, split_push}
 use Rattle.at_tree.proofs.Paths.{reach_here, reach_step, reach_unmarked, reach_all, reach_in, child_from_entered}
 
 -- the list once these classes are in it, one after another, each after what it adds
@@ -15,23 +16,23 @@ pub data Walks (tree : List (List ℕ)) (stop : List Bool) : List ℕ → List �
 
 -- each class stands after what is entered from it
 pub record IsOrdered (tree : List (List ℕ)) (stop : List Bool) (list : List ℕ) : Type 0 where
-  pub before : (prefix back : List ℕ) (d e : ℕ) → list ≡ prefix ++ d ∷ back → Contains (entered tree stop d) e → Contains prefix e
+  pub before : (prefix suffix : List ℕ) (d e : ℕ) → list ≡ prefix ++ d ∷ suffix → Contains (entered tree stop d) e → Contains prefix e
 
 module _ (tree : List (List ℕ)) (stop : List Bool) where
   -- what was in the list stays
-  pub kept : (list cs out : List ℕ) → Walks tree stop list cs out → (d : ℕ) → Contains list d → Contains out d
-  kept list [] out done d h = h
-  kept list (c ∷ cs) out (again seen w) d h = kept list cs out w d h
-  kept list (c ∷ cs) out (first {mid = mid} new v w) d h =
-      kept (mid ++ c ∷ []) cs out w d (Contains-append_left mid (c ∷ []) d (kept list (entered tree stop c) mid v d h))
+  pub preserved : (list cs out : List ℕ) → Walks tree stop list cs out → (d : ℕ) → Contains list d → Contains out d
+  preserved list [] out done d h = h
+  preserved list (c ∷ cs) out (again seen w) d h = preserved list cs out w d h
+  preserved list (c ∷ cs) out (first {mid = mid} new v w) d h =
+      preserved (mid ++ c ∷ []) cs out w d (Contains-append_left mid (c ∷ []) d (preserved list (entered tree stop c) mid v d h))
 
   -- each class that the walk comes to is in the list
   pub listed : (list cs out : List ℕ) → Walks tree stop list cs out → (e : ℕ) → Contains cs e → Contains out e
   listed list [] out done e h = absurd (none_in e h)
   listed list (c ∷ cs) out (again seen w) e h =
-      ⊎_elim (λ at. subst (Contains out) at (kept list cs out w c seen)) (listed list cs out w e) (in_cons c cs e h)
+      ⊎_elim (λ at. subst (Contains out) at (preserved list cs out w c seen)) (listed list cs out w e) (in_cons c cs e h)
   listed list (c ∷ cs) out (first {mid = mid} new v w) e h =
-      ⊎_elim (λ at. subst (Contains out) at (kept (mid ++ c ∷ []) cs out w c (Contains-push mid c))) (listed (mid ++ c ∷ []) cs out w e) (in_cons c cs e h)
+      ⊎_elim (λ at. subst (Contains out) at (preserved (mid ++ c ∷ []) cs out w c (Contains-push mid c))) (listed (mid ++ c ∷ []) cs out w e) (in_cons c cs e h)
 
   -- what is in the list was in it, or is reached from a class that the walk comes to
   pub reached_from : (list cs out : List ℕ) → Walks tree stop list cs out → (d : ℕ) → Contains out d → Contains list d ⊎ ((e : ℕ) × Contains cs e × Reaches tree stop e d)
@@ -50,7 +51,7 @@ module _ (tree : List (List ℕ)) (stop : List Bool) where
       (λ r. inr (r.0, (in_there c cs r.0 r.1), r.2))
       (reached_from (mid ++ c ∷ []) cs out w d h)
 
-  -- the order is kept
+  -- the order is preserved
   pub ordered : (list cs out : List ℕ) → Walks tree stop list cs out → IsOrdered tree stop list → IsOrdered tree stop out
   ordered list [] out done o = o
   ordered list (c ∷ cs) out (again seen w) o = ordered list cs out w o
@@ -58,17 +59,17 @@ module _ (tree : List (List ℕ)) (stop : List Bool) where
       let all : (e : ℕ) → Contains (entered tree stop c) e → Contains mid e = listed list (entered tree stop c) mid v in
       let m : IsOrdered tree stop mid = ordered list (entered tree stop c) mid v o in
       ordered (mid ++ c ∷ []) cs out w (record {
-        before = λ prefix back d e at h. ⊎_elim
+        before = λ prefix suffix d e at h. ⊎_elim
             (λ last. subst (λ xs. Contains xs e) last.0 (all e (subst (λ x. Contains (entered tree stop x) e) (sym last.1) h)))
             (λ p. m.before prefix p.0 d e p.1 h)
-            (parted_push mid c prefix d back at);
+            (split_push mid c prefix d suffix at);
       })
 
   -- what is reached from a class of an ordered list is in the list
   pub closed : (list : List ℕ) → IsOrdered tree stop list → (c : ℕ) (path : List ℕ) (d : ℕ) → Contains list c → IsPath tree stop c path d → Contains list d
   closed list o c [] d h p = subst (Contains list) p h
   closed list o c (e ∷ path) d h p =
-      let at = parted list c h in
+      let at = split_at list c h in
       let before : Contains at.0 e = o.before at.0 at.1 c e at.2 p.0 in
       closed list o e path d (subst (λ xs. Contains xs e) (sym at.2) (Contains-append_left at.0 (c ∷ at.1) e before)) p.1
 
@@ -89,7 +90,7 @@ module _ (tree : List (List ℕ)) (stop : List Bool) where
     -- the list of the walk from one class
     pub walk_from : (c : ℕ) (out : List ℕ) → c < length tree → Walks tree stop [] (c ∷ []) out → IsWalk tree stop c out
     walk_from c out lt w =
-        let o : IsOrdered tree stop out = ordered [] (c ∷ []) out w (record { before = λ prefix back d e at h. absurd (none_in d (subst (λ xs. Contains xs d) (sym at) (in_middle prefix d back))) }) in
+        let o : IsOrdered tree stop out = ordered [] (c ∷ []) out w (record { before = λ prefix suffix d e at h. absurd (none_in d (subst (λ xs. Contains xs d) (sym at) (in_middle prefix d suffix))) }) in
         let sound : (d : ℕ) → Contains out d → Reaches tree stop c d =
         λ d h. ⊎_elim
         (λ none. absurd (none_in d none))
@@ -106,3 +107,40 @@ module _ (tree : List (List ℕ)) (stop : List Bool) where
 pub walk_unmarked : (tree : List (List ℕ)) (stop : List Bool) (c : ℕ) (out : List ℕ) → IsWalk tree stop c out → All (λ marked. marked ≡ false) stop → (d : ℕ) → Contains out d ↔ Reaches tree [] c d
 walk_unmarked tree stop c out w none d =
     ((λ h. reach_unmarked tree stop c d ((w.reached d).0 h)), (λ r. (w.reached d).1 (reach_all tree stop none c d r)))
+
+module _ (tree : List (List ℕ)) (stop : List Bool) (list : List ℕ) (o : IsOrdered tree stop list) where
+  -- what is reached from a class in a prefix of an ordered list is in the prefix
+  reached_in_prefix : (prefix suffix : List ℕ) → list ≡ prefix ++ suffix → (d : ℕ) (path : List ℕ) (e : ℕ) → Contains prefix d → IsPath tree stop d path e → Contains prefix e
+  reached_in_prefix prefix suffix at d path e h p =
+      closed tree stop prefix (record {
+        before = λ first rest c f is entered. o.before first (rest ++ suffix) c f (at ∙ ap (λ l. l ++ suffix) is ∙ append_assoc first (c ∷ rest) suffix) entered;
+      }) d path e h p
+
+  reached_after : (prefix suffix : List ℕ) (d : ℕ) (path : List ℕ) (e : ℕ) → list ≡ prefix ++ d ∷ suffix → d ≢ e → IsPath tree stop d path e → Contains prefix e
+  reached_after prefix suffix d [] e at other p = absurd (other p)
+  reached_after prefix suffix d (f ∷ path) e at other p =
+      reached_in_prefix prefix (d ∷ suffix) at f path e (o.before prefix suffix d f at p.0) p.1
+
+  -- each class of an ordered list stands after what is reached from it
+  pub reached_first : IsReachedFirst tree stop list
+  reached_first = λ prefix suffix d e at other r. reached_after prefix suffix d r.0 e at other r.1
+
+  -- where marks are closed downward, a path to an unmarked class goes through no marked one
+  path_to_unmarked : AreClosed tree stop → (c : ℕ) (path : List ℕ) (e : ℕ) → get_or stop e false ≡ false → IsPath tree [] c path e → (get_or stop c false ≡ false) × IsPath tree stop c path e
+  path_to_unmarked down c [] e none p = (ap (λ k. get_or stop k false) p ∙ none, p)
+  path_to_unmarked down c (f ∷ path) e none p =
+      let rest = path_to_unmarked down f path e none p.1 in
+      let open_here : get_or stop c false ≡ false = elim (cases_Bool (get_or stop c false)) [
+        | inl marked ↦ absurd (false≢true (sym rest.0 ∙ down c f marked p.0))
+        | inr none_here ↦ none_here
+      ] in
+      (open_here, (subst (λ b. Contains (cond b [] (children tree c)) f) (sym open_here) p.0, rest.1))
+
+  -- so each class stands after each unmarked class below it
+  pub unmarked_first : AreClosed tree stop → IsUnmarkedFirst tree stop list
+  unmarked_first down = λ prefix suffix d e at other none r.
+      reached_after prefix suffix d r.0 e at other (path_to_unmarked down d r.0 e none r.1).1
+
+-- the order of a walk
+pub order_of : (tree : List (List ℕ)) (stop : List Bool) (c : ℕ) (out : List ℕ) → IsWalk tree stop c out → IsOrdered tree stop out
+order_of tree stop c out w = record { before = w.subclasses_first }

@@ -1,9 +1,9 @@
 //! The tree of direct subclasses, and the walk over all that lies below a class.
 #![tactic(auto)]
 
-ghost use Rattle.std.specs.Prelude.{◌≡◌, ◌↔◌, ℕ, ◌<◌, false, [], ◌∷◌, ◌++◌, length, replicate, All, Contains, IfOk, OnOk, OnErr, slice_set};
+ghost use Rattle.std.specs.Prelude.{◌≡◌, ◌↔◌, ℕ, ◌<◌, false, [], ◌∷◌, ◌++◌, length, replicate, All, Contains, IsOk, IfOk, OnOk, OnErr, slice_set};
 ghost use Rattle.at_tree.specs.Tree.{children, without, Reaches, IsTree};
-ghost use Rattle.at_tree.specs.Walk.{IsWalk, walk_of};
+ghost use Rattle.at_tree.specs.Walk.{IsWalk, IsReachedFirst, AreClosed, IsUnmarkedFirst, walk_of};
 
 #[cfg(test)]
 mod tests;
@@ -33,13 +33,15 @@ impl Model for Tree {
 }
 
 impl Tree {
-    /// The classes 0 to n - 1, none of which has a subclass. The one error is out of memory.
+    /// The classes 0 to n - 1, none of which has a subclass. The one error is out of memory, and no
+    /// class takes none.
     pub fn new(alloc: Global, n: u16) -> Result<Tree, AllocError>
-        ensures { IfOk result (λ tree. tree ≡ replicate n []) }
+        ensures lists { IfOk result (λ tree. tree ≡ replicate n []) }
+        ensures empty { n ≡ 0 → IsOk result }
     {
         let mut lists = Vec::with_capacity(alloc, usize::from(n))?;
         for _ in 0..n {
-            lists.push(Vec::new(alloc))?;
+            lists.push_reserved(Vec::new(alloc));
         }
         Ok(Tree { lists })
     }
@@ -65,7 +67,7 @@ impl Tree {
             (self.new ≡ slice_set self.old base (children self.old base ++ c ∷ [])) }
         ensures err { OnErr result (self.new ≡ self.old) }
 
-        // What lies below c stays.
+        // What lies below c is unchanged.
         ensures below_c { (d : ℕ) → Reaches self.new [] c d ↔ Reaches self.old [] c d }
     {
         self.lists[usize::from(base)].push(c)?;
@@ -78,7 +80,7 @@ impl Tree {
         requires present { Contains (children self.old base) c }
         ensures removed { self.new ≡ slice_set self.old base (without (children self.old base) c) }
 
-        // What lies below c stays.
+        // What lies below c is unchanged.
         ensures below_c { (d : ℕ) → Reaches self.new [] c d ↔ Reaches self.old [] c d }
     {
         take_out(&mut self.lists[usize::from(base)], c);
@@ -88,7 +90,9 @@ impl Tree {
     /// subclasses of a class in the order of their list. The one error is out of memory.
     ///
     /// From a class that `stop` marks, by number, nothing is entered: the class is in the list, and
-    /// what lies only below it isn't.
+    /// what lies only below it isn't. A class stands after every class that is reached from it
+    /// through no marked one. So where the subclasses of a marked class are all marked, it stands
+    /// after every unmarked class below it; what lies below a marked class may stand after it.
     pub fn below(&self, c: u16, stop: &[bool]) -> Result<Vec<u16>, AllocError>
         requires class_in { c < length self.now }
         requires marks { length stop.now ≡ length self.now }
@@ -96,12 +100,16 @@ impl Tree {
         ensures unmarked { IfOk result (λ list. All (λ marked. marked ≡ false) stop.now
             → (d : ℕ) → Contains list.items d ↔ Reaches self.now [] c d) }
         ensures exact { IfOk result (λ list. list.items ≡ walk_of self.now stop.now c) }
+
+        // A class stands after all that lies below it, also through several others, as far as the walk can know.
+        ensures reached_first { IfOk result (λ list. IsReachedFirst self.now stop.now list.items) }
+        ensures unmarked_first { IfOk result (λ list. AreClosed self.now stop.now
+            → IsUnmarkedFirst self.now stop.now list.items) }
     {
         walk::post_order(*self.lists.allocator(), &self.lists, stop, c)
     }
 }
 
-/// Takes a class out of a list, and keeps the order of the others.
 fn take_out(list: &mut Vec<u16>, c: u16)
     ensures { list.new.items ≡ without list.old.items c }
 {

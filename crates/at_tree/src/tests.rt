@@ -63,6 +63,21 @@ fn walks_a_diamond(rt: HostRuntime) -> Result<(), Fail> {
     Ok(())
 }
 
+// The marks of 2 and 3 are closed downward. The walk can't know that 3 lies below 2, and so below 1.
+#[test]
+fn stops_below_marked_classes(rt: HostRuntime) -> Result<(), Fail> {
+    let alloc = rt.alloc();
+    let mut tree = Tree::new(alloc, 4)?;
+    for (base, c) in [(0, 1), (0, 3), (1, 2), (2, 3)] {
+        link(&rt, alloc, &mut tree, base, c)?;
+    }
+    let list = tree.below(0, &[false, false, true, true])?;
+    assert_eq!(rt; list.as_slice(), [2, 1, 3, 0].as_slice());
+    let list = tree.below(0, &[false, false, false, true])?;
+    assert_eq!(rt; list.as_slice(), [3, 2, 1, 0].as_slice());
+    Ok(())
+}
+
 #[test]
 fn walks_a_long_chain(rt: HostRuntime) -> Result<(), Fail> {
     let alloc = rt.alloc();

@@ -13,8 +13,6 @@ struct Stage {
     next: usize,
 }
 
-/// The next class that the walk enters from the stage's class. None past the last, and where the
-/// class is marked.
 fn next_below(lists: &[Vec<u16>], stop: &[bool], stage: Stage) -> Option<u16>
     requires class_in { stage.class < length lists.now }
     requires marks { length stop.now ≡ length lists.now }
@@ -29,8 +27,7 @@ fn next_below(lists: &[Vec<u16>], stop: &[bool], stage: Stage) -> Option<u16>
     lists[class].get(stage.next).copied()
 }
 
-/// The class and all that lies below it, entered through no marked class. The time is linear in the
-/// number of classes and of the pairs that are entered.
+/// The time is linear in the number of classes and of the pairs that are entered.
 pub(crate) fn post_order(
     alloc: Global,
     lists: &[Vec<u16>],
