@@ -9,6 +9,7 @@ use Rattle.std.proofs.lemmas.Option.{some_pair_parts, none-some}
 use Rattle.std.proofs.lemmas.Bool.{cases_Bool, le-ltb, lt-ltb, ltb-true, ltb-false}
 use Rattle.std.proofs.lemmas.Bool.Decides.{nat_tests}
 use Rattle.std.proofs.lemmas.Map.Keys.{IsDistinct-push}
+use Rattle.at_value.specs.Numbers.{special_names}
 use Rattle.at_value.specs.Widths as widths
 use Rattle.at_name.specs.Texts.{AreDistinct, AreNames, place_of, found_or_added, interned, special_texts}
 
@@ -138,15 +139,15 @@ AreNames-interned text texts new place h e =
     interned_cases widths.names text texts new place (λ n l. AreNames l) e (λ n is. h) (λ absent room.
     let all = AreDistinct-push widths.names text texts (record { distinct = h.distinct; bounded = h.most }) absent room in
     record {
-      special = let five : 5 ≤ length texts = omega (arith, ap length h.special, length-take 5 texts) in take-append-le 5 texts (text ∷ []) five ∙ h.special;
+      special = let enough : special_names ≤ length texts = omega (arith, ap length h.special, length-take special_names texts) in take-append-le special_names texts (text ∷ []) enough ∙ h.special;
       distinct = all.distinct;
       most = all.bounded;
     })
 
 -- also where no place was given
-pub AreNames-kept : (text : List ℕ) (texts new : List (List ℕ)) (r : Option ℕ) → AreNames texts → interned widths.names text texts ≡ option_map (λ n. (n, new)) r → (r ≡ None → new ≡ texts) → AreNames new
-AreNames-kept text texts new None h e kept = rw (kept refl) h
-AreNames-kept text texts new (Some n) h e kept = AreNames-interned text texts new n h e
+pub AreNames-option : (text : List ℕ) (texts new : List (List ℕ)) (r : Option ℕ) → AreNames texts → interned widths.names text texts ≡ option_map (λ n. (n, new)) r → (r ≡ None → new ≡ texts) → AreNames new
+AreNames-option text texts new None h e unchanged = rw (unchanged refl) h
+AreNames-option text texts new (Some n) h e unchanged = AreNames-interned text texts new n h e
 
 -- there is no place exactly for a new text in a full list
 pub interned_none : (most : ℕ) (text : List ℕ) (texts : List (List ℕ)) → length texts ≤ most → interned most text texts ≡ None → (place_of text texts ≡ None) × (length texts ≡ most)

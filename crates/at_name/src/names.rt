@@ -2,7 +2,7 @@
 ghost use Rattle.std.specs.Prelude.{◌≡◌, ◌↔◌, length, None, Some, IfOk, OnErr, slice_get};
 ghost use Rattle.std.specs.Option.{option_copied};
 ghost use Rattle.at_value.specs.Widths as widths;
-ghost use Rattle.at_name.specs.Texts.{AreNames, place_of, interned, special_texts};
+ghost use Rattle.at_name.specs.Texts.{AreNames, HasNoRoomFor, place_of, interned, special_texts};
 
 use crate::fault::NameFault;
 use crate::texts::Texts;
@@ -10,7 +10,6 @@ use at_value::Name;
 use std::alloc::{AllocError, Global};
 use std::marker::Model;
 
-/// How many names there are at most.
 const NAMES_MOST: usize = Name::COUNT as usize;
 
 /// Distinct texts, each known by its place; the special names stand first. Contracts see the list of the texts.
@@ -69,11 +68,11 @@ impl Names {
 
     /// The number of the text, which is added at the end where it isn't there. A text that is there keeps its number
     /// and takes no memory. It answers `TooMany` exactly where the text isn't there and there are 4,096 texts, and
-    /// `NoMemory` for want of memory; then nothing changes.
+    /// `NoMemory` where the text isn't there and memory is refused; then nothing changes.
     pub fn intern(&mut self, text: &str) -> Result<Name, NameFault>
         ensures ok { IfOk result (λ n. interned widths.names text.now self.old ≡ Some (n, self.new)) }
         ensures number { IfOk result (λ n. place_of text.now self.new ≡ Some n) }
-        ensures too_many { (result ≡ Err NameFault.TooMany) ↔ ((place_of text.now self.old ≡ None) × (length self.old ≡ widths.names)) }
+        ensures too_many { (result ≡ Err NameFault.TooMany) ↔ HasNoRoomFor widths.names text.now self.old }
         ensures absent { OnErr result (place_of text.now self.old ≡ None) }
         ensures err { OnErr result (self.new ≡ self.old) }
     {

@@ -1,14 +1,14 @@
 //! Lists of distinct texts. Contracts see each as the list of the texts.
 ghost use Rattle.std.specs.Prelude.{◌≡◌, ◌<◌, ◌≤◌, ◌↔◌, [], length, IfSome, IfOk, OnErr, slice_get};
 ghost use Rattle.std.specs.Option.{option_map, option_copied};
-ghost use Rattle.at_name.specs.Texts.{AreDistinct, place_of, interned};
+ghost use Rattle.at_name.specs.Texts.{AreDistinct, HasNoRoomFor, place_of, interned};
 
 use indexmap::IndexSet;
 use std::alloc::{AllocError, Global};
 use std::marker::Model;
 
-/// At most `MOST` distinct texts, each known by its place: that of its first standing. Contracts see the list of the
-/// texts, each as its bytes.
+/// At most `MOST` distinct texts, each known by its place, in the order in which they came. Contracts see the list of
+/// the texts, each as its bytes.
 #[derive(Drop)]
 pub struct Texts<const MOST: usize> {
     set: IndexSet<String>,
@@ -69,8 +69,8 @@ impl<const MOST: usize> Texts<MOST> {
     pub fn intern(&mut self, text: &str) -> Result<Option<usize>, AllocError>
         ensures same { IfOk result (λ place. interned MOST text.now self.old ≡ option_map (λ n. (n, self.new)) place) }
         ensures range { IfOk result (λ place. IfSome place (λ n. n < MOST)) }
-        ensures full { (result ≡ Ok None) ↔ ((place_of text.now self.old ≡ None) × (length self.old ≡ MOST)) }
-        ensures kept { IfOk result (λ place. place ≡ None → self.new ≡ self.old) }
+        ensures full { (result ≡ Ok None) ↔ HasNoRoomFor MOST text.now self.old }
+        ensures unchanged { IfOk result (λ place. place ≡ None → self.new ≡ self.old) }
         ensures absent { OnErr result (place_of text.now self.old ≡ None) }
         ensures err { OnErr result (self.new ≡ self.old) }
     {
