@@ -53,8 +53,8 @@ subsequence-step : (c : ℕ) (list rest : List ℕ) → IsSubsequence (without_h
 subsequence-step c [] rest is = tt
 subsequence-step c (x ∷ xs) rest is =
     elim (x == c) as (λ b. (x == c) ≡ b → IsSubsequence (cond b xs (x ∷ xs)) rest → ((x ≡ c) × IsSubsequence xs rest) ⊎ IsSubsequence (x ∷ xs) rest) [
-      | true ↦ λ same kept. inl (eqb-true x c same, kept)
-      | false ↦ λ _ kept. inr kept
+      | true ↦ λ same rest_is. inl (eqb-true x c same, rest_is)
+      | false ↦ λ _ rest_is. inr rest_is
     ] refl is
 
 subsequences-step : (c : ℕ) (rest : List ℕ) (lists : List (List ℕ)) → AllByRecursion (λ list. IsSubsequence list rest) (map (without_head c) lists) → AllByRecursion (λ list. IsSubsequence list (c ∷ rest)) lists

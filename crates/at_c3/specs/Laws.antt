@@ -20,18 +20,21 @@ MergeHasEachNumberOnce =
     → IsDistinct nat_eq merged × ((n : ℕ) → Contains merged n ↔ Any (λ list. Contains list n) lists)
 
 -- the numbers of each list stand in the merge in that list's order
-abbrev pub MergeKeepsEveryOrder : Type 0
-MergeKeepsEveryOrder =
-    (lists : List (List ℕ)) (merged : List ℕ) → merge_of lists ≡ Some merged → All (λ list. IsSubsequence list merged) lists
+abbrev pub MergePreservesEveryOrder : Type 0
+MergePreservesEveryOrder =
+    (lists : List (List ℕ)) (merged : List ℕ) → merge_of lists ≡ Some merged
+    → All (λ list. IsSubsequence list merged) lists
 
--- An order is its class and then the merge, which keeps the class out where no list has it.
+-- An order is its class and then the merge, which is without the class where no list has it.
 abbrev pub OrderBeginsWithItsClass : Type 0
 OrderBeginsWithItsClass =
     (c : ℕ) (bases : List ℕ) (orders : List (List ℕ)) (order : List ℕ) → order_of_lists c bases orders ≡ Some order
-    → (rest : List ℕ) × (order ≡ c ∷ rest) × (merge_of (orders ++ bases ∷ []) ≡ Some rest) × (¬ (Any (λ list. Contains list c) (orders ++ bases ∷ [])) → IsDistinct nat_eq order)
+    → (rest : List ℕ) × (order ≡ c ∷ rest) × (merge_of (orders ++ bases ∷ []) ≡ Some rest)
+    × (¬ (Any (λ list. Contains list c) (orders ++ bases ∷ [])) → IsDistinct nat_eq order)
 
--- The bases stand in an order as in the list of bases (local precedence), and each base's order is kept (monotonicity).
-abbrev pub OrderKeepsEveryOrder : Type 0
-OrderKeepsEveryOrder =
+-- The bases stand in an order as in the list of bases (local precedence order), and the classes of each base's order as
+-- in that order (monotonicity).
+abbrev pub OrderPreservesEveryOrder : Type 0
+OrderPreservesEveryOrder =
     (c : ℕ) (bases : List ℕ) (orders : List (List ℕ)) (order : List ℕ) → order_of_lists c bases orders ≡ Some order
     → IsSubsequence bases order × All (λ order_of_base. IsSubsequence order_of_base order) orders

@@ -33,14 +33,16 @@ without_head number (x ∷ xs) = if x == number then xs else x ∷ xs
 abbrev pub prefixed : List ℕ → Option (List ℕ) → Option (List ℕ)
 prefixed prefix rest = option_map (λ list. prefix ++ list) rest
 
--- The merge, where so many steps are enough: the empty list where all lists are empty; otherwise the next head, and
+-- The merge, where these steps are enough: the empty list where all lists are empty; otherwise the next head, and
 -- then the merge of the lists with that head removed from all heads. There is none where no head is next.
 abbrev pub merge_within : ℕ → List (List ℕ) → Option (List ℕ)
 merge_within zero lists = if list_all is_empty lists then Some [] else None
 merge_within (suc steps) lists =
     if list_all is_empty lists
     then Some []
-    else option_and_then (λ head. prefixed (head ∷ []) (merge_within steps (map (without_head head) lists))) (next_head lists)
+    else option_and_then
+    (λ head. prefixed (head ∷ []) (merge_within steps (map (without_head head) lists)))
+    (next_head lists)
 
 -- The merge of the lists. Each step takes a number away, so as many steps as there are numbers are enough.
 abbrev pub merge_of : List (List ℕ) → Option (List ℕ)
@@ -58,7 +60,9 @@ StandsInATail lists number = Any (λ list. Contains (drop 1 list) number) lists
 abbrev pub IsNextHead : List (List ℕ) → ℕ → Type 0
 IsNextHead lists number =
     ¬ (StandsInATail lists number)
-    × ((before : List (List ℕ)) × (tail : List ℕ) × (after : List (List ℕ)) × (lists ≡ before ++ (number ∷ tail) ∷ after) × All (λ list. IfSome (slice_get list 0) (StandsInATail lists)) before)
+    × ((before : List (List ℕ)) × (tail : List ℕ) × (after : List (List ℕ))
+    × (lists ≡ before ++ (number ∷ tail) ∷ after)
+    × All (λ list. IfSome (slice_get list 0) (StandsInATail lists)) before)
 
 -- The merge as a relation, without steps: it is empty where all lists are, and otherwise begins with the next head and
 -- goes on with a merge of the lists with that head removed from all heads.

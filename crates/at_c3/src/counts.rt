@@ -8,13 +8,12 @@ use std::alloc::{AllocError, Global};
 
 /// How often each number was counted, by number; one past the end was never counted.
 #[derive(Drop)]
-pub struct Counts {
+pub(crate) struct Counts {
     counts: SmallVec<u32, 32, Global>,
 }
 
 impl Counts {
-    /// No number counted.
-    pub fn new(alloc: Global) -> Self
+    pub(crate) fn new(alloc: Global) -> Self
         ensures { AreCountsOf result.counts.items [] }
     {
         Counts {
@@ -22,8 +21,7 @@ impl Counts {
         }
     }
 
-    /// Whether the number is counted.
-    pub fn has(&self, number: u16) -> bool
+    pub(crate) fn has(&self, number: u16) -> bool
         ensures { result ≡ not (slice_index self.now.counts.items number == 0) }
     {
         self.counts
@@ -31,7 +29,6 @@ impl Counts {
             .is_some_and(|count| *count != 0)
     }
 
-    /// Makes the table reach beyond the number.
     fn reach(&mut self, number: u16) -> Result<(), AllocError>
         ensures reaches { OnOk result (number < small_vec_len self.new.counts) }
         ensures same { (n : ℕ) → slice_index self.new.counts.items n ≡ slice_index self.old.counts.items n }
@@ -42,9 +39,8 @@ impl Counts {
         Ok(())
     }
 
-    /// Counts the number once more. A count that would pass 32 bits is answered as want of
-    /// memory.
-    pub fn add(&mut self, number: u16) -> Result<(), AllocError>
+    /// A count that would pass 32 bits is answered as out of memory.
+    pub(crate) fn add(&mut self, number: u16) -> Result<(), AllocError>
         ensures { OnOk result ((before : List ℕ) → AreCountsOf self.old.counts.items before
             → AreCountsOf self.new.counts.items (before ++ number ∷ [])) }
     {
@@ -57,8 +53,7 @@ impl Counts {
         Ok(())
     }
 
-    /// Counts each of the numbers once more.
-    pub fn add_all(&mut self, numbers: &[u16]) -> Result<(), AllocError>
+    pub(crate) fn add_all(&mut self, numbers: &[u16]) -> Result<(), AllocError>
         ensures { OnOk result ((before : List ℕ) → AreCountsOf self.old.counts.items before
             → AreCountsOf self.new.counts.items (before ++ numbers.now)) }
     {
@@ -68,8 +63,7 @@ impl Counts {
         Ok(())
     }
 
-    /// Counts the number once less.
-    pub fn remove(&mut self, number: u16)
+    pub(crate) fn remove(&mut self, number: u16)
         requires { 0 < slice_index self.old.counts.items number }
         ensures { (others : List ℕ) → AreCountsOf self.old.counts.items (number ∷ others)
             → AreCountsOf self.new.counts.items others }

@@ -1,6 +1,6 @@
 //! What is true of every merge and of every order. Each function does nothing: its contract is
 //! the law.
-ghost use Rattle.at_c3.specs.Laws.{MergeIsTheRelation, MergeHasEachNumberOnce, MergeKeepsEveryOrder, OrderBeginsWithItsClass, OrderKeepsEveryOrder};
+ghost use Rattle.at_c3.specs.Laws.{MergeIsTheRelation, MergeHasEachNumberOnce, MergePreservesEveryOrder, OrderBeginsWithItsClass, OrderPreservesEveryOrder};
 
 /// The merge is the list that the relation of the C3 paper allows, and there is none where it
 /// allows none.
@@ -13,9 +13,9 @@ pub fn merge_has_each_number_once()
     ensures { MergeHasEachNumberOnce }
 {}
 
-/// A merge keeps the order of every list.
-pub fn merge_keeps_every_order()
-    ensures { MergeKeepsEveryOrder }
+/// A merge has the numbers of every list in that list's order.
+pub fn merge_preserves_every_order()
+    ensures { MergePreservesEveryOrder }
 {}
 
 /// An order begins with its class and goes on with the merge; it has the class only there
@@ -24,8 +24,8 @@ pub fn order_begins_with_its_class()
     ensures { OrderBeginsWithItsClass }
 {}
 
-/// An order keeps the order of the list of bases (local precedence) and the order of each base
-/// (monotonicity).
-pub fn order_keeps_every_order()
-    ensures { OrderKeepsEveryOrder }
+/// An order has the bases in the order of their list (local precedence order), and the classes of
+/// each base's order in that order (monotonicity).
+pub fn order_preserves_every_order()
+    ensures { OrderPreservesEveryOrder }
 {}

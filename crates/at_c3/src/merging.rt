@@ -15,7 +15,6 @@ pub type List = SmallVec<u16, 8, Global>;
 /// What is left of the lists of a merge: those of up to eight bases, and the list of bases.
 type Rests<'a> = SmallVec<&'a [u16], 9, Global>;
 
-/// The list without its head.
 fn tail_of(list: &[u16]) -> &[u16]
     ensures { result.now ≡ drop 1 list.now }
 {
@@ -25,7 +24,6 @@ fn tail_of(list: &[u16]) -> &[u16]
     }
 }
 
-/// Counts the numbers in the tails of the lists.
 fn count_tails(counts: &mut Counts, lists: &[&[u16]]) -> Result<(), AllocError>
     ensures { OnOk result (AreCountsOf counts.old.counts.items []
         → AreCountsOf counts.new.counts.items (tail_numbers (contents lists.now))) }
@@ -36,8 +34,6 @@ fn count_tails(counts: &mut Counts, lists: &[&[u16]]) -> Result<(), AllocError>
     Ok(())
 }
 
-/// The head of the first list whose head stands in no tail, where the numbers in the tails are
-/// counted.
 fn first_free_head(lists: &[&[u16]], in_tails: &Counts) -> Option<u16>
     requires { AreCountsOf in_tails.now.counts.items (tail_numbers (contents lists.now)) }
     ensures { result ≡ next_head (contents lists.now) }
@@ -52,8 +48,6 @@ fn first_free_head(lists: &[&[u16]], in_tails: &Counts) -> Option<u16>
     None
 }
 
-/// The list without its head, where that is the number: then what was next in the list is no
-/// more in its tail.
 fn after_head<'a>(number: u16, list: &'a [u16], in_tails: &mut Counts) -> &'a [u16]
     requires { (others : List ℕ) × AreCountsOf in_tails.old.counts.items (drop 1 list.now ++ others) }
     ensures rest { result.now ≡ without_head number list.now }
@@ -71,8 +65,6 @@ fn after_head<'a>(number: u16, list: &'a [u16], in_tails: &mut Counts) -> &'a [u
     }
 }
 
-/// Takes the number from the head of each list that begins with it, and keeps the counts of
-/// the numbers in the tails.
 fn remove_head(number: u16, lists: &mut [&[u16]], in_tails: &mut Counts)
     requires { AreCountsOf in_tails.old.counts.items (tail_numbers (contents lists.old)) }
     ensures rests { contents lists.new ≡ map (without_head number) (contents lists.old) }
@@ -83,19 +75,17 @@ fn remove_head(number: u16, lists: &mut [&[u16]], in_tails: &mut Counts)
     }
 }
 
-/// Whether nothing is left of any list.
 fn are_all_empty(lists: &[&[u16]]) -> bool
     ensures { result ≡ list_all is_empty (contents lists.now) }
 {
     lists.iter().all(|list| list.is_empty())
 }
 
-/// The length of the longest list; a merge has at least as many numbers.
+/// A merge has at least as many numbers as the longest list.
 fn longest_len(lists: &[&[u16]]) -> usize {
     lists.iter().map(|list| list.len()).max().unwrap_or(0)
 }
 
-/// Adds the merge of the lists to what stands before it.
 fn merge_onto(alloc: Global, mut merged: List, rests: &mut [&[u16]]) -> Result<List, MergeFault>
     ensures merged { IfOk result
         (λ list. prefixed merged.items (merge_of (contents rests.old)) ≡ Some list.items) }
@@ -119,7 +109,6 @@ fn merge_onto(alloc: Global, mut merged: List, rests: &mut [&[u16]]) -> Result<L
     }
 }
 
-/// The slices of the lists.
 fn slices_of<'a>(alloc: Global, lists: &'a [List]) -> Result<Rests<'a>, MergeFault>
     ensures slices { IfOk result (λ slices. contents slices.items ≡ map (λ l. l.items) lists.now) }
     ensures fault { IsOkUnless result MergeFault.NoMemory }

@@ -96,7 +96,7 @@ fn orders_a_long_chain(rt: HostRuntime) -> Result<(), Fail> {
 fn laws_can_be_called() {
     laws::merge_is_the_relation();
     laws::merge_has_each_number_once();
-    laws::merge_keeps_every_order();
+    laws::merge_preserves_every_order();
     laws::order_begins_with_its_class();
-    laws::order_keeps_every_order();
+    laws::order_preserves_every_order();
 }

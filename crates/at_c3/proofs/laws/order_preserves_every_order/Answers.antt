@@ -4,7 +4,7 @@ use Rattle.at_c3.specs.Merge.{merge_of}
 use Rattle.at_c3.specs.Laws.{IsSubsequence}
 use Rattle.at_c3.proofs.RunLemmas.{prefixed-some, run_from_merge}
 use Rattle.at_c3.proofs.OrderLemmas.{run_keeps_orders, subsequences-after}
-use Rattle.at_c3.proofs.laws.order_keeps_every_order.Goals as goal
+use Rattle.at_c3.proofs.laws.order_preserves_every_order.Goals as goal
 
 pub returns : goal.returns
 returns c = λ class bases orders order is.

@@ -2,7 +2,7 @@ use Rattle.std.proofs.lemmas.List.Elements.{All-from_recursion}
 use Rattle.at_c3.specs.Laws.{IsSubsequence}
 use Rattle.at_c3.proofs.RunLemmas.{run_from_merge}
 use Rattle.at_c3.proofs.OrderLemmas.{run_keeps_orders}
-use Rattle.at_c3.proofs.laws.merge_keeps_every_order.Goals as goal
+use Rattle.at_c3.proofs.laws.merge_preserves_every_order.Goals as goal
 
 pub returns : goal.returns
 returns c = λ lists merged is.
