@@ -5,3 +5,4 @@ pub mod CountLemmas
 pub mod RunLemmas
 pub mod RelationLemmas
 pub mod OrderLemmas
+pub mod RoomLemmas

@@ -36,6 +36,10 @@ fewer_numbers test c ((x ∷ xs) ∷ lists) found =
 pub rests_get_shorter : (c : ℕ) (lists rests : List (List ℕ)) → Some c ≡ next_head lists → rests ≡ map (without_head c) lists → length (concat rests) < length (concat lists)
 rests_get_shorter c lists rests next left = rw left (fewer_numbers _ c lists (sym next))
 
+-- where a head is next, some number is left
+pub head_left : (c : ℕ) (lists : List (List ℕ)) → Some c ≡ next_head lists → 1 ≤ length (concat lists)
+head_left c lists next = let fewer = fewer_numbers _ c lists (sym next) in omega arith
+
 -- where a head is found, not all lists are empty
 some_left : (test : ℕ → Bool) (c : ℕ) (lists : List (List ℕ)) → find test (heads lists) ≡ Some c → list_all is_empty lists ≡ false
 some_left test c [] found = cc

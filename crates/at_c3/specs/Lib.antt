@@ -1,3 +1,4 @@
 pub mod Counts
 pub mod Merge
+pub mod Room
 pub mod Laws

@@ -1,19 +1,27 @@
 //! The merge of lists, and the order of a class.
-ghost use Rattle.std.specs.Prelude.{◌≡◌, ◌++◌, ◌∷◌, [], ℕ, List, drop, Some, None, map, OnOk, IfOk, IsErr, IsSome, IsErrOf, IsOkUnless};
-ghost use Rattle.std.specs.List.{list_all};
+ghost use Rattle.std.specs.Prelude.{◌≡◌, ◌≤◌, ◌++◌, ◌∷◌, [], ℕ, List, length, drop, Some, None, map, OnOk, IfOk, IsOk, IsErr, IsSome, IsErrOf, IsOkUnless};
+ghost use Rattle.std.specs.List.{list_all, concat};
+ghost use Rattle.smallvec.specs.SmallVec.{HasRoomFor};
 ghost use Rattle.at_c3.specs.Counts.{AreCountsOf, tail_numbers};
 ghost use Rattle.at_c3.specs.Merge.{contents, is_empty, next_head, without_head, merge_of, prefixed, order_of_lists};
+ghost use Rattle.at_c3.specs.Room.{AreSmall, TakesNoMemory, lists_room};
 
 use crate::counts::Counts;
 use crate::fault::MergeFault;
 use smallvec::SmallVec;
 use std::alloc::{AllocError, Global};
 
-/// A list of numbers; one of at most eight takes no memory.
-pub type List = SmallVec<u16, 8, Global>;
+/// How many numbers a list has before it takes memory.
+const LIST_ROOM: usize = 8;
 
-/// What is left of the lists of a merge: those of up to eight bases, and the list of bases.
-type Rests<'a> = SmallVec<&'a [u16], 9, Global>;
+/// How many lists a merge has before it takes memory: those of eight bases, and the list of bases.
+const LISTS_ROOM: usize = 9;
+
+/// A list of numbers; one of at most eight takes no memory.
+pub type List = SmallVec<u16, LIST_ROOM, Global>;
+
+/// What is left of the lists of a merge.
+type Rests<'a> = SmallVec<&'a [u16], LISTS_ROOM, Global>;
 
 fn tail_of(list: &[u16]) -> &[u16]
     ensures { result.now ≡ drop 1 list.now }
@@ -25,8 +33,10 @@ fn tail_of(list: &[u16]) -> &[u16]
 }
 
 fn count_tails(counts: &mut Counts, lists: &[&[u16]]) -> Result<(), AllocError>
-    ensures { OnOk result (AreCountsOf counts.old.counts.items []
+    ensures counted { OnOk result (AreCountsOf counts.old.counts.items []
         → AreCountsOf counts.new.counts.items (tail_numbers (contents lists.now))) }
+    ensures room { AreCountsOf counts.old.counts.items [] → AreSmall (contents lists.now)
+        → length (tail_numbers (contents lists.now)) ≤ u32.MAX → IsOk result }
 {
     for list in lists {
         counts.add_all(tail_of(list))?;
@@ -82,8 +92,14 @@ fn are_all_empty(lists: &[&[u16]]) -> bool
 }
 
 /// A merge has at least as many numbers as the longest list.
-fn longest_len(lists: &[&[u16]]) -> usize {
-    lists.iter().map(|list| list.len()).max().unwrap_or(0)
+fn longest_len(lists: &[&[u16]]) -> usize
+    ensures { result ≤ length (concat (contents lists.now)) }
+{
+    let mut longest = 0;
+    for list in lists {
+        longest = list.len().max(longest);
+    }
+    longest
 }
 
 fn merge_onto(alloc: Global, mut merged: List, rests: &mut [&[u16]]) -> Result<List, MergeFault>
@@ -94,6 +110,9 @@ fn merge_onto(alloc: Global, mut merged: List, rests: &mut [&[u16]]) -> Result<L
     ensures none { prefixed merged.items (merge_of (contents rests.old)) ≡ None → IsErr result }
     ensures some { IsSome (prefixed merged.items (merge_of (contents rests.old)))
         → IsOkUnless result MergeFault.NoMemory }
+    ensures room { HasRoomFor merged (length (concat (contents rests.old)))
+        → length (concat (contents rests.old)) ≤ u32.MAX → AreSmall (contents rests.old)
+        → IsOkUnless result MergeFault.NoHead }
 {
     merged.reserve(longest_len(rests))?;
     let mut in_tails = Counts::new(alloc);
@@ -112,10 +131,11 @@ fn merge_onto(alloc: Global, mut merged: List, rests: &mut [&[u16]]) -> Result<L
 fn slices_of<'a>(alloc: Global, lists: &'a [List]) -> Result<Rests<'a>, MergeFault>
     ensures slices { IfOk result (λ slices. contents slices.items ≡ map (λ l. l.items) lists.now) }
     ensures fault { IsOkUnless result MergeFault.NoMemory }
+    ensures room { length lists.now ≤ lists_room → IsOk result }
 {
     let mut slices = SmallVec::with_capacity(alloc, lists.len())?;
     for list in lists {
-        slices.push(list.as_slice())?;
+        slices.push_reserved(list.as_slice());
     }
     Ok(slices)
 }
@@ -125,7 +145,9 @@ fn slices_of<'a>(alloc: Global, lists: &'a [List]) -> Result<Rests<'a>, MergeFau
 ///
 /// `NoHead` where the lists have no merge, since each head that is left stands in some tail.
 /// `NoMemory` where memory ran out, or where a number stands in the tails 2^32 times; it may
-/// come in place of either other answer.
+/// come in place of either other answer. Where the lists have no merge, it is never `Ok`. A merge
+/// of at most nine lists takes no memory, where they have at most eight numbers together and those
+/// in their tails are below 32.
 pub fn merge(alloc: Global, lists: &[List]) -> Result<List, MergeFault>
     ensures merged { IfOk result
         (λ list. merge_of (map (λ l. l.items) lists.now) ≡ Some list.items) }
@@ -134,6 +156,7 @@ pub fn merge(alloc: Global, lists: &[List]) -> Result<List, MergeFault>
     ensures none { merge_of (map (λ l. l.items) lists.now) ≡ None → IsErr result }
     ensures some { IsSome (merge_of (map (λ l. l.items) lists.now))
         → IsOkUnless result MergeFault.NoMemory }
+    ensures room { TakesNoMemory 0 (map (λ l. l.items) lists.now) → IsOkUnless result MergeFault.NoHead }
 {
     merge_onto(alloc, SmallVec::new(alloc), &mut slices_of(alloc, lists)?)
 }
@@ -141,7 +164,8 @@ pub fn merge(alloc: Global, lists: &[List]) -> Result<List, MergeFault>
 /// The order of class `c`, where each of its bases has its order in `orders`: `c`, and then the
 /// merge of these orders and of the list of bases.
 ///
-/// `NoHead` where they have no merge, `NoMemory` as [`merge`] answers it.
+/// `NoHead` where they have no merge, and then it is never `Ok`; `NoMemory` as [`merge`] answers
+/// it. With the class itself there may be eight numbers before it takes memory.
 pub fn order(alloc: Global, c: u16, bases: &[u16], orders: &[List]) -> Result<List, MergeFault>
     ensures ordered { IfOk result
         (λ list. order_of_lists c bases.now (map (λ l. l.items) orders.now) ≡ Some list.items) }
@@ -150,6 +174,8 @@ pub fn order(alloc: Global, c: u16, bases: &[u16], orders: &[List]) -> Result<Li
     ensures none { order_of_lists c bases.now (map (λ l. l.items) orders.now) ≡ None → IsErr result }
     ensures some { IsSome (order_of_lists c bases.now (map (λ l. l.items) orders.now))
         → IsOkUnless result MergeFault.NoMemory }
+    ensures room { TakesNoMemory 1 (map (λ l. l.items) orders.now ++ bases.now ∷ [])
+        → IsOkUnless result MergeFault.NoHead }
 {
     order_of_slices(alloc, c, bases, &slices_of(alloc, orders)?)
 }
@@ -169,6 +195,8 @@ pub fn order_of_slices<'a>(
     ensures none { order_of_lists c bases.now (contents orders.now) ≡ None → IsErr result }
     ensures some { IsSome (order_of_lists c bases.now (contents orders.now))
         → IsOkUnless result MergeFault.NoMemory }
+    ensures room { TakesNoMemory 1 (contents orders.now ++ bases.now ∷ [])
+        → IsOkUnless result MergeFault.NoHead }
 {
     let mut rests: Rests = SmallVec::from_slice(alloc, orders)?;
     rests.push(bases)?;

@@ -1,5 +1,6 @@
 use Rattle.std.proofs.Common.{◌≡◌, length}
 use Rattle.std.specs.List.{concat}
+use Rattle.smallvec.specs.SmallVec.{HasRoomFor}
 use Rattle.at_c3.specs.Counts.{AreCountsOf, tail_numbers}
 use Rattle.at_c3.specs.Merge.{contents, merge_of, prefixed}
 use Rattle.at_c3.proofs.merging.merge_onto.Given as goal
@@ -8,6 +9,7 @@ use Rattle.at_c3.proofs.merging.merge_onto.Given as goal
 abbrev pub invariant-loop-head : goal.invariant-loop-head
 invariant-loop-head l = record {
   merged : prefixed l.merged.items (merge_of (contents l.rests)) ≡ prefixed l.fn.merged.items (merge_of (contents l.fn.rests));
+  room : HasRoomFor l.fn.merged (length (concat (contents l.fn.rests))) → HasRoomFor l.merged (length (concat (contents l.rests)));
   counts : AreCountsOf l.in_tails.counts.items (tail_numbers (contents l.rests));
 }
 
