@@ -71,6 +71,7 @@ fn stops_below_marked_classes(rt: HostRuntime) -> Result<(), Fail> {
     for (base, c) in [(0, 1), (0, 3), (1, 2), (2, 3)] {
         link(&rt, alloc, &mut tree, base, c)?;
     }
+    assert_eq!(rt; tree.size(), 4);
     let list = tree.below(0, &[false, false, true, true])?;
     assert_eq!(rt; list.as_slice(), [2, 1, 3, 0].as_slice());
     let list = tree.below(0, &[false, false, false, true])?;

@@ -1,4 +1,4 @@
--- What is kept, as classes are made and get names.
+-- The invariant of `Plain`, as classes are made and get and lose names.
 use Rattle.std.proofs.Common.{◌≡◌, ◌∙◌, ap, sym, refl, ℕ, zero, suc, ◌<◌, ◌-◌, ◌∷◌, ◌++◌, length, get_or, set, take, drop, replicate, List, [], map, Option, Some, None, true, is_some, IsTrue, ◌==◌, lit<, arith}
 use Rattle.std.specs.List.{list_all}
 use Rattle.std.proofs.lemmas.Bool.{eq-eqb, or_left, or_right, false≢true}
@@ -19,7 +19,7 @@ use Rattle.at_world.specs.Plain.{PlainState, lists_of, IsCoherent}
 use Rattle.at_model.proofs.Orders.{order_members_made, made_below}
 use Rattle.at_model.proofs.StoredOrders.{defined_order, AreOrders-defined, AreOrders-same_bases, same_bases-own, first_unordered-defined, first_unordered-undefined}
 
--- the order of a class that is made with these bases, by the orders that are kept
+-- the order of a class that is made with these bases, by the stored orders
 pub gathered_order : (classes : List (Option ClassRow)) (orders lists : List (List ℕ)) (c n : ℕ) (bases items : List ℕ)
     → AreOrders classes orders → row_of classes c ≡ None → c < length classes → IsTrue (list_all (λ b. is_some (row_of classes b)) bases)
     → n ≡ c → items ≡ bases → lists ≡ orders
@@ -27,18 +27,18 @@ pub gathered_order : (classes : List (Option ClassRow)) (orders lists : List (Li
 gathered_order classes orders lists c n bases items are free below made is_c are_bases are_lists =
     defined_order classes orders c (record { bases = bases; own = [] }) are free below made ∙ rw (is_c, are_bases, are_lists) refl
 
--- the new class and its order are kept beside the others
-pub kept_defined : (classes : List (Option ClassRow)) (orders : List (SmallVec ℕ)) (objects : List Object) (dicts : List Map) (c i : ℕ) (bases : List ℕ) (own : Map) (order : SmallVec ℕ)
+-- with the new class and its order
+pub IsCoherent-defined : (classes : List (Option ClassRow)) (orders : List (SmallVec ℕ)) (objects : List Object) (dicts : List Map) (c i : ℕ) (bases : List ℕ) (own : Map) (order : SmallVec ℕ)
     → IsCoherent classes (lists_of orders) objects dicts → row_of classes c ≡ None → c < widths.classes
     → order_in (set classes c (Some (record { bases = bases; own = [] }))) c ≡ Some order.items → i ≡ c → own ≡ []
     → IsCoherent (set classes i (Some (record { bases = bases; own = own }))) (lists_of (set orders i order)) objects dicts
-kept_defined classes orders objects dicts c i bases own order kept free below is at empty =
+IsCoherent-defined classes orders objects dicts c i bases own order coherent free below is at empty =
     rw (at, empty, map-set) (record {
-      numbered = length-set classes c (Some (record { bases = bases; own = [] })) ∙ kept.numbered;
-      ordered = length-set (lists_of orders) c order.items ∙ kept.ordered;
-      orders_are = AreOrders-defined classes (lists_of orders) c (record { bases = bases; own = [] }) order.items kept.orders_are free (omega (arith, kept.numbered)) (omega (arith, kept.ordered)) is;
-      few = kept.few;
-      named = kept.named;
+      numbered = length-set classes c (Some (record { bases = bases; own = [] })) ∙ coherent.numbered;
+      ordered = length-set (lists_of orders) c order.items ∙ coherent.ordered;
+      orders_are = AreOrders-defined classes (lists_of orders) c (record { bases = bases; own = [] }) order.items coherent.orders_are free (omega (arith, coherent.numbered)) (omega (arith, coherent.ordered)) is;
+      few = coherent.few;
+      named = coherent.named;
     })
 
 -- a class that has an order is made, and one that has none is refused
@@ -50,7 +50,7 @@ pub refused_outcome : (w : World) (orders : List (List ℕ)) (c : ℕ) (bases : 
     → if_ordered w (with_class w c bases) ≡ record { reply = replies.NoOrder c; world = w }
 refused_outcome w orders c bases are free below none = ap (unless_unordered w (with_class w c bases)) (first_unordered-undefined w c bases orders are free below none)
 
--- the same as it is kept, with the count of the writes
+-- the same of the state
 pub defined_state : (classes : List (Option ClassRow)) (orders : List (List ℕ)) (objects : List Object) (dicts : List Map) (place c i : ℕ) (bases order : List ℕ) (own : Map)
     → AreOrders classes orders → row_of classes c ≡ None → (let w : World = record { classes = classes; objects = objects; dicts = dicts } in
     order_of (with_class w c bases) c ≡ Some order → i ≡ c → own ≡ []
@@ -71,17 +71,17 @@ refused_state s orders c bases are free below none =
     (ap (λ (o : Outcome). o.reply) (sym outcome), ap (λ (o : Outcome). state o.world) (sym outcome))
 
 -- names of a class change no order
-pub kept_names : (classes changed : List (Option ClassRow)) (orders : List (List ℕ)) (objects : List Object) (dicts : List Map) (c : ℕ) (names : Map)
+pub IsCoherent-names : (classes changed : List (Option ClassRow)) (orders : List (List ℕ)) (objects : List Object) (dicts : List Map) (c : ℕ) (names : Map)
     → IsCoherent classes orders objects dicts → changed ≡ with_names classes c (row_of classes c) names → IsCoherent changed orders objects dicts
-kept_names classes changed orders objects dicts c names kept is =
+IsCoherent-names classes changed orders objects dicts c names coherent is =
     rw is (elim (row_of classes c) as (λ row. row_of classes c ≡ row → IsCoherent (with_names classes c row names) orders objects dicts) [
-      | None ↦ λ _. kept
+      | None ↦ λ _. coherent
       | Some row ↦ λ at. record {
-        numbered = length-set classes c (Some (record row { own = names })) ∙ kept.numbered;
-        ordered = kept.ordered;
-        orders_are = AreOrders-same_bases classes (set classes c (Some (record row { own = names }))) orders (same_bases-own classes c row names at) (sym (length-set classes c (Some (record row { own = names })))) kept.orders_are;
-        few = kept.few;
-        named = kept.named;
+        numbered = length-set classes c (Some (record row { own = names })) ∙ coherent.numbered;
+        ordered = coherent.ordered;
+        orders_are = AreOrders-same_bases classes (set classes c (Some (record row { own = names }))) orders (same_bases-own classes c row names at) (sym (length-set classes c (Some (record row { own = names })))) coherent.orders_are;
+        few = coherent.few;
+        named = coherent.named;
       }
     ] refl)
 
@@ -95,9 +95,9 @@ opening_orders : AreOrders opening.classes ((0 ∷ []) ∷ replicate (widths.cla
 opening_orders zero made = refl
 opening_orders (suc c) made = absurd (false≢true (sym (ap is_some (none_made (widths.classes - 1) c)) ∙ made))
 
-pub kept_opening : (classes : List (Option ClassRow)) (orders : List (List ℕ)) (objects : List Object) (dicts : List Map)
+pub IsCoherent-opening : (classes : List (Option ClassRow)) (orders : List (List ℕ)) (objects : List Object) (dicts : List Map)
     → classes ≡ opening.classes → orders ≡ (0 ∷ []) ∷ replicate (widths.classes - 1) [] → objects ≡ [] → dicts ≡ [] → IsCoherent classes orders objects dicts
-kept_opening classes orders objects dicts are_classes are_orders no_objects no_dicts =
+IsCoherent-opening classes orders objects dicts are_classes are_orders no_objects no_dicts =
     rw (are_classes, are_orders, no_objects, no_dicts) (record {
       numbered = refl;
       ordered = refl;
@@ -118,7 +118,7 @@ order_numbers classes c order long is =
     let below = made_below classes d (order_members_made (suc (length classes)) classes c d order is at) in
     omega (arith, below, long))
 
--- a list that is kept, read at an index
+-- a stored list, read at an index
 pub list_at : (orders : List (SmallVec ℕ)) (i : ℕ) (list d : SmallVec ℕ) → i < length orders → list ≡ get_or orders i d → list.items ≡ get_or (lists_of orders) i []
 list_at orders i list d within is = ap (λ (l : SmallVec ℕ). l.items) is ∙ sym (get_or-map (λ (l : SmallVec ℕ). l.items) orders i d [] within)
 

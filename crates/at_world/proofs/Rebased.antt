@@ -55,21 +55,21 @@ order_or_none-same : (list order : List ℕ) → order_or_none list ≡ Some ord
 order_or_none-same [] order is = cc
 order_or_none-same (c ∷ cs) order is = cc
 
--- the new classes and orders are kept, where no order is missing
-pub kept_rebased : (classes : List (Option ClassRow)) (was orders : List (List ℕ)) (objects : List Object) (dicts : List Map) (c : ℕ) (bases : List ℕ)
+-- with the new classes and orders, where no order is missing
+pub IsCoherent-rebased : (classes : List (Option ClassRow)) (was orders : List (List ℕ)) (objects : List Object) (dicts : List Map) (c : ℕ) (bases : List ℕ)
     → IsCoherent classes was objects dicts → IsTrue (is_some (row_of classes c)) → AreNewOrders (rebased classes c bases) orders → length orders ≡ widths.classes
     → first_empty 0 classes orders ≡ None → IsCoherent (rebased classes c bases) orders objects dicts
-kept_rebased classes was orders objects dicts c bases kept made are long none =
+IsCoherent-rebased classes was orders objects dicts c bases coherent made are long none =
     let w : World = record { classes = classes; objects = objects; dicts = dicts } in
     let all = ordered-from_none (with_bases w c bases) (rebased_first w c bases orders made are ∙ none) in
     record {
-      numbered = length-set classes c (Some (record { bases = bases; own = own_of (row_of classes c) })) ∙ kept.numbered;
+      numbered = length-set classes c (Some (record { bases = bases; own = own_of (row_of classes c) })) ∙ coherent.numbered;
       ordered = long;
       orders_are = λ d there.
           let found = all d there in
           found.1 ∙ ap (λ o. Some o) (order_or_none-same (get_or orders d []) found.0 (sym (are d there) ∙ found.1));
-      few = kept.few;
-      named = kept.named;
+      few = coherent.few;
+      named = coherent.named;
     }
 
 -- a class without an order refuses the change

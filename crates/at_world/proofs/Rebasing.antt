@@ -1,4 +1,4 @@
--- Orders once a class has other bases, computed from the orders that were kept.
+-- Orders once a class has other bases, computed from the stored orders.
 use Rattle.std.proofs.Common.{◌≡◌, ◌≢◌, ◌∙◌, ap, sym, refl, subst, ℕ, zero, suc, ◌+◌, ◌<◌, ◌≤◌, ◌==◌, ◌&&◌, ◌||◌, ◌++◌, inl, inr, cond, not, length, get_or, set, List, [], ◌∷◌, map, Option, Some, None, true, false, is_some, IsTrue, arith}
 use Rattle.std.specs.List.{list_all, list_any}
 use Rattle.std.proofs.lemmas.Bool.{cases_eq, cases_lt, and_parts, or_parts, or_cases, or_left, or_right, eq-eqb, eqb-true, eqb-false, false≢true, false_from_ne_true}
@@ -17,7 +17,7 @@ use Rattle.at_model.proofs.Subsequences.{subsequence-length, subsequence-has}
 use Rattle.at_model.proofs.Orders.{parts_of, orders_kept, order_of_row-kept_parts, order_within-more, made-from_order, not_made, order_begins, has_own_class, rest_order, made_below}
 use Rattle.at_model.proofs.OrderLaws.{orders_are_merges}
 
--- Orders that are kept
+-- Stored orders
 
 -- such an order isn't empty
 pub kept_order-there : (classes : List (Option ClassRow)) (orders : List (List ℕ)) (d : ℕ) → AreOrders classes orders → IsTrue (is_some (row_of classes d))
@@ -34,8 +34,8 @@ base_is_shorter classes orders d b row are at base =
     let made = parts_of (order_within n classes) d (row_of classes d) (get_or orders d []) (are d (ap is_some at)) in
     let same : Some made.row ≡ Some row = sym made.at ∙ at in
     let is_row : made.row ≡ row = cc in
-    let kept = (orders_kept made.orders made.row.bases made.rest made.merged).1 in
-    let in_rest : has b made.rest ≡ true = subsequence-has b made.row.bases made.rest kept (ap (λ (r : ClassRow). has b r.bases) is_row ∙ base) in
+    let in_order = (orders_kept made.orders made.row.bases made.rest made.merged).1 in
+    let in_rest : has b made.rest ≡ true = subsequence-has b made.row.bases made.rest in_order (ap (λ (r : ClassRow). has b r.bases) is_row ∙ base) in
     let found = rest_order n classes d b (get_or orders d []) made in_rest in
     let there : IsTrue (is_some (row_of classes b)) = made-from_order n classes b found.0 found.1 in
     let again : Some found.0 ≡ Some (get_or orders b []) = sym (order_within-more n (suc n) classes b found.0 found.1 (omega arith)) ∙ are b there in
@@ -130,7 +130,7 @@ apart_base classes was c b (d ∷ bases) are made apart at =
       | inr later ↦ apart_base classes was c b bases are all.1 none.1 later
     ]
 
--- before the first round: the new order of c, and the orders that were kept
+-- before the first round: the new order of c, and the stored orders
 pub renewed_first : (classes : List (Option ClassRow)) (was : List (List ℕ)) (c : ℕ) (bases order : List ℕ) → AreOrders classes was
     → list_all (λ x. is_some (row_of classes x)) (c ∷ bases) ≡ true → list_any (λ x. is_in_order c (order_in classes x)) bases ≡ false
     → c < length was → order_or_none order ≡ order_by was c bases

@@ -2,12 +2,15 @@
 use Rattle.std.specs.Prelude.{ℕ, ◌≡◌, ◌+◌, ◌-◌, ◌^◌, ◌≤◌, min, length, map, List, [], ◌∷◌, Option, Some, None, if◌then◌else◌, slice_index_or}
 use Rattle.smallvec.specs.SmallVec.{SmallVec}
 use Rattle.at_value.specs.declared.operation.Op as op
+use Rattle.at_value.specs.declared.reply.Reply as replies
+use Rattle.at_value.specs.declared.value.Value as value
 use Rattle.at_value.specs.Widths as widths
 use Rattle.at_model.specs.declared.rows.ClassRow.{ClassRow}
-use Rattle.at_model.specs.World.{World, Map, all_orders, merged_order}
+use Rattle.at_value.specs.Pairs.{value_at, with_value, without}
+use Rattle.at_model.specs.World.{World, Map, row_of, own_of, all_orders, merged_order}
 use Rattle.at_model.specs.StoredOrders.{AreOrders}
-use Rattle.at_model.specs.Attributes.{Outcome}
-use Rattle.at_model.specs.Step.{step, is_done}
+use Rattle.at_model.specs.Attributes.{Outcome, dict_of, del_own}
+use Rattle.at_model.specs.Step.{step, is_done, with_names}
 use Rattle.at_model.specs.declared.rows.Object.{Object}
 
 pub record PlainState : Type 0 where
@@ -25,11 +28,31 @@ moved place outcome = record { world = outcome.world; place = if is_done outcome
 abbrev pub stepped : PlainState → op.Op → PlainState
 stepped s operation = moved s.place (step s.world operation)
 
+-- the reply and the state are those of the outcome, which counts no place
+abbrev pub IsOutcome : Outcome → PlainState → PlainState → replies.Reply → Type 0
+IsOutcome outcome old new reply = (reply ≡ outcome.reply) × (new ≡ record { world = outcome.world; place = old.place })
+
+-- the reply and the state are those after an operation
+abbrev pub IsStepped : op.Op → PlainState → PlainState → replies.Reply → Type 0
+IsStepped operation old new reply = (reply ≡ (step old.world operation).reply) × (new ≡ stepped old operation)
+
+-- an object's dictionary without the name, where it was there
+abbrev pub own_deleted : World → Object → ℕ → Outcome
+own_deleted w object n = del_own w object n (value_at n (dict_of w object))
+
+-- the classes once class c has a value under the name, and once it hasn't the name
+abbrev pub with_name : List (Option ClassRow) → ℕ → ℕ → value.Value → List (Option ClassRow)
+with_name classes c n v = with_names classes c (row_of classes c) (with_value n v (own_of (row_of classes c)))
+
+abbrev pub without_name : List (Option ClassRow) → ℕ → ℕ → List (Option ClassRow)
+without_name classes c n = with_names classes c (row_of classes c) (without n (own_of (row_of classes c)))
+
 abbrev pub lists_of : List (SmallVec ℕ) → List (List ℕ)
 lists_of orders = map (λ l. l.items) orders
 
--- what is true of classes, their orders, objects and dictionaries that are kept
-pub record IsCoherent (classes : List (Option ClassRow)) (orders : List (List ℕ)) (objects : List Object) (dicts : List Map) : Type 0 where
+-- what is true of classes, their orders, objects and dictionaries
+pub record IsCoherent (classes : List (Option ClassRow)) (orders : List (List ℕ)) (objects : List Object) (dicts : List Map)
+    : Type 0 where
   pub numbered : length classes ≡ widths.classes
   pub ordered : length orders ≡ widths.classes
   pub orders_are : AreOrders classes orders

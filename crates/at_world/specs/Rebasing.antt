@@ -17,11 +17,11 @@ IsNewOrder changed orders d = order_in changed d ≡ order_or_none (slice_index_
 abbrev pub AreNewOrders : List (Option ClassRow) → List (List ℕ) → Type 0
 AreNewOrders changed orders = (d : ℕ) → IsTrue (is_some (row_of changed d)) → IsNewOrder changed orders d
 
--- class d is below c, and its order has one class more than so many
+-- class d is below c, and its order has one class more than `long`
 abbrev pub is_due : ℕ → ℕ → ℕ → List ℕ → Bool
 is_due c long d order = not (d == c) && (length order == suc long && has_number c order)
 
--- what is kept of a class of which that is true
+-- the row of a class of which that is true
 abbrev pub due_row : List (Option ClassRow) → List (List ℕ) → ℕ → ℕ → ℕ → Option ClassRow
 due_row classes was c long d = if is_due c long d (slice_index_or was d []) then row_of classes d else None
 
@@ -31,7 +31,7 @@ first_empty c [] orders = None
 first_empty c (row ∷ rows) orders = if is_some row && is_empty (slice_index_or orders c []) then Some c else first_empty (suc c) rows orders
 
 -- The lists that are new orders already, of the classes that are made: that of c, those of classes that c didn't stand
--- above, those whose orders had at most so many classes, and of those that had one more, the ones of a number below next.
+-- above, those whose orders had at most `long` classes, and of those that had one more, the ones of a number below next.
 pub record AreRenewed (changed classes : List (Option ClassRow)) (was : List (List ℕ)) (c long next : ℕ) (orders : List (List ℕ)) : Type 0 where
   pub subject : IsNewOrder changed orders c
   pub apart : (d : ℕ) → IsTrue (is_some (row_of classes d)) → has_number c (slice_index_or was d []) ≡ false → IsNewOrder changed orders d

@@ -2,7 +2,6 @@
 //! namespaces that go with it are those of the crates below.
 #![tactic(auto)]
 
-mod lookup;
 mod plain;
 #[cfg(test)]
 mod tests;

@@ -3,10 +3,11 @@ ghost use Rattle.std.specs.Prelude.{◌≡◌, ◌-◌, ◌∷◌, [], IsTrue, I
 ghost use Rattle.at_value.specs.Widths as widths;
 ghost use Rattle.at_model.specs.World as world;
 ghost use Rattle.at_model.specs.Step as steps;
-ghost use Rattle.at_world.specs.Plain.{stepped, lists_of};
+ghost use Rattle.at_world.specs.Plain.{IsStepped, IsOutcome, lists_of};
 
 mod classes;
 mod ending;
+mod lookup;
 mod naming;
 mod objects;
 mod orders;
@@ -20,10 +21,9 @@ use smallvec::SmallVec;
 use std::alloc::{AllocError, Global};
 use std::marker::Model;
 
-/// How many class numbers there are.
 const CLASSES: usize = Class::COUNT as usize;
 
-/// A world, and the count of the writes that led to it. The orders of the classes are kept beside it, so that a look-up
+/// A world, and the count of the writes that led to it. The orders of the classes stand beside it, so that a look-up
 /// computes none. Contracts see the world and the count.
 #[derive(Drop)]
 pub struct Plain {
@@ -42,7 +42,10 @@ impl Model for Plain {
 
     ghost use Rattle.at_world.specs.Plain.{IsCoherent, lists_of};
 
-    ghost view = { λ p. record { world = record { classes = p.classes.items; objects = p.objects.items; dicts = p.dicts.items }; place = p.place } };
+    ghost view = { λ p. record {
+      world = record { classes = p.classes.items; objects = p.objects.items; dicts = p.dicts.items };
+      place = p.place;
+    } };
 
     ghost invariant = { λ p. IsCoherent p.classes.items (lists_of p.orders.items) p.objects.items p.dicts.items };
 }
@@ -75,7 +78,7 @@ impl Plain {
     /// access" and "Special method lookup"; the orders after Barrett and others, "A Monotonic Superclass Linearization
     /// for Dylan" (1996).
     pub fn apply(&mut self, op: &Op) -> Result<Reply, AllocError>
-        ensures ok { IfOk result (λ reply. (reply ≡ (steps.step self.old.world op.now).reply) × (self.new ≡ stepped self.old op.now)) }
+        ensures ok { IfOk result (IsStepped op.now self.old self.new) }
         ensures err { OnErr result (self.new ≡ self.old) }
     {
         if !self.has_objects(op) {
@@ -98,10 +101,9 @@ impl Plain {
         Place(self.place)
     }
 
-    /// The effect of an operation all of whose classes and objects are made.
     fn perform(&mut self, op: &Op) -> Result<Reply, AllocError>
         requires { IsTrue (steps.are_made self.old.world (steps.classes_in op.now)) }
-        ensures ok { IfOk result (λ reply. (reply ≡ (steps.effect self.old.world op.now).reply) × (self.new ≡ record { world = (steps.effect self.old.world op.now).world; place = self.old.place })) }
+        ensures ok { IfOk result (IsOutcome (steps.effect self.old.world op.now) self.old self.new) }
         ensures err { OnErr result (self.new ≡ self.old) }
     {
         match op {
@@ -124,7 +126,6 @@ impl Plain {
     }
 }
 
-/// The classes of the opening world.
 fn first_classes(alloc: Global) -> Result<Vec<Option<ClassRow>>, AllocError>
     ensures { IfOk result (λ classes. classes.items ≡ world.opening.classes) }
 {
@@ -153,7 +154,6 @@ fn first_orders(alloc: Global) -> Result<Vec<List>, AllocError>
     Ok(orders)
 }
 
-/// Whether the reply is a write's.
 fn is_write_reply(reply: &Reply) -> bool
     ensures { result ≡ steps.is_done reply.now }
 {

@@ -3,7 +3,7 @@ ghost use Rattle.std.specs.Prelude.{◌≡◌, nat_lt, length};
 ghost use Rattle.at_model.specs.Step as steps;
 
 use super::Plain;
-use crate::lookup::class_row;
+use super::lookup::class_row;
 use at_value::{Class, Obj, Op, Value};
 
 impl Plain {

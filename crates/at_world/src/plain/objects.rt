@@ -1,10 +1,11 @@
 //! Operations that make and change objects.
-ghost use Rattle.std.specs.Prelude.{◌≡◌, ◌<◌, [], IfOk, OnOk, OnErr, slice_get, slice_set, slice_index_or, length};
+ghost use Rattle.std.specs.Prelude.{◌≡◌, ◌<◌, [], None, IfOk, OnOk, OnErr, slice_get, slice_set, slice_index_or, length};
 ghost use Rattle.at_value.specs.Pairs.{value_at, with_value, without};
 ghost use Rattle.at_desc.specs.Binding.{bound_set, bound_del};
 ghost use Rattle.at_model.specs.World as world;
 ghost use Rattle.at_model.specs.Attributes as attributes;
 ghost use Rattle.at_model.specs.Step as steps;
+ghost use Rattle.at_world.specs.Plain.{IsOutcome, own_deleted};
 
 use super::Plain;
 use at_desc::{Step, bind_del, bind_set};
@@ -13,9 +14,8 @@ use at_value::{Class, Name, Obj, Pairs, Reply, Value};
 use std::alloc::AllocError;
 
 impl Plain {
-    /// Makes an object.
     pub(super) fn new_object(&mut self, c: Class) -> Result<Reply, AllocError>
-        ensures ok { IfOk result (λ reply. (reply ≡ (steps.new_effect self.old.world c).reply) × (self.new ≡ record { world = (steps.new_effect self.old.world c).world; place = self.old.place })) }
+        ensures ok { IfOk result (IsOutcome (steps.new_effect self.old.world c) self.old self.new) }
         ensures err { OnErr result (self.new ≡ self.old) }
     {
         if c == Class::object() {
@@ -31,9 +31,8 @@ impl Plain {
         Ok(Reply::Made(o, init))
     }
 
-    /// Writes a name of an object.
     pub(super) fn set(&mut self, o: Obj, n: Name, v: &Value) -> Result<Reply, AllocError>
-        ensures ok { IfOk result (λ reply. (reply ≡ (attributes.set_effect self.old.world o n v.now).reply) × (self.new ≡ record { world = (attributes.set_effect self.old.world o n v.now).world; place = self.old.place })) }
+        ensures ok { IfOk result (IsOutcome (attributes.set_effect self.old.world o n v.now) self.old self.new) }
         ensures err { OnErr result (self.new ≡ self.old) }
     {
         let Some(object) = self.object_at(o) else {
@@ -48,26 +47,17 @@ impl Plain {
         }
     }
 
-    /// The object with this number, where it is made.
-    fn object_at(&self, o: Obj) -> Option<Object>
-        ensures { result ≡ slice_get self.now.world.objects o }
-    {
-        self.objects.get(usize::from(o.number())).copied()
-    }
-
-    /// How a write of an object's name goes on.
     fn set_step(&self, object: &Object, o: Obj, n: Name, v: &Value) -> Step
-        ensures { result ≡ (let t = world.find_in self.now.world object.now.class n in bound_set t (attributes.three_of self.now.world t) o v.now) }
+        ensures { result ≡ (let t = world.find_in self.now.world object.now.class n in
+            bound_set t (attributes.three_of self.now.world t) o v.now) }
     {
         let t = self.find(object.class, n);
         let three = self.three_of(&t);
         bind_set(t, &three, o, *v)
     }
 
-    /// Deletes a name of an object.
     pub(super) fn del(&mut self, o: Obj, n: Name) -> Reply
-        ensures reply { result ≡ (attributes.del_effect self.old.world o n).reply }
-        ensures state { self.new ≡ record { world = (attributes.del_effect self.old.world o n).world; place = self.old.place } }
+        ensures { IsOutcome (attributes.del_effect self.old.world o n) self.old self.new result }
     {
         let Some(object) = self.object_at(o) else {
             return Reply::NoAttr;
@@ -78,31 +68,26 @@ impl Plain {
         }
     }
 
-    /// How a deletion of an object's name goes on.
     fn del_step(&self, object: &Object, o: Obj, n: Name) -> Step
-        ensures { result ≡ (let t = world.find_in self.now.world object.now.class n in bound_del t (attributes.three_of self.now.world t) o) }
+        ensures { result ≡ (let t = world.find_in self.now.world object.now.class n in
+            bound_del t (attributes.three_of self.now.world t) o) }
     {
         let t = self.find(object.class, n);
         let three = self.three_of(&t);
         bind_del(t, &three, o)
     }
 
-    /// Takes a name out of an object's dictionary, where it is there.
     fn del_own(&mut self, object: &Object, n: Name) -> Reply
-        ensures reply { result ≡ (attributes.del_own self.old.world object.now n (value_at n (attributes.dict_of self.old.world object.now))).reply }
-        ensures state { self.new ≡ record { world = (attributes.del_own self.old.world object.now n (value_at n (attributes.dict_of self.old.world object.now))).world; place = self.old.place } }
+        ensures { IsOutcome (own_deleted self.old.world object.now n) self.old self.new result }
     {
-        if self.own_value(object, n).is_none() {
-            return Reply::NoAttr;
+        match cut_in_dict(&mut self.dicts, object.dict, n) {
+            Some(_) => Reply::Done,
+            None => Reply::NoAttr,
         }
-        cut_in_dict(&mut self.dicts, object.dict, n);
-        Reply::Done
     }
 
-    /// Gives an object another class.
     pub(super) fn set_class(&mut self, o: Obj, c: Class) -> Reply
-        ensures reply { result ≡ (steps.set_class_on self.old.world o c (slice_get self.old.world.objects o)).reply }
-        ensures state { self.new ≡ record { world = (steps.set_class_on self.old.world o c (slice_get self.old.world.objects o)).world; place = self.old.place } }
+        ensures { IsOutcome (steps.set_class_on self.old.world o c (slice_get self.old.world.objects o)) self.old self.new result }
     {
         let Some(was) = self.object_at(o) else {
             return Reply::NoAttr;
@@ -114,10 +99,10 @@ impl Plain {
         Reply::Done
     }
 
-    /// Gives an object the dictionary of another.
     pub(super) fn share(&mut self, o: Obj, p: Obj) -> Reply
-        ensures reply { result ≡ (steps.share_on self.old.world o (slice_get self.old.world.objects o) (slice_get self.old.world.objects p)).reply }
-        ensures state { self.new ≡ record { world = (steps.share_on self.old.world o (slice_get self.old.world.objects o) (slice_get self.old.world.objects p)).world; place = self.old.place } }
+        ensures { IsOutcome
+            (steps.share_on self.old.world o (slice_get self.old.world.objects o) (slice_get self.old.world.objects p))
+            self.old self.new result }
     {
         let Some(was) = self.object_at(o) else {
             return Reply::NoAttr;
@@ -131,7 +116,6 @@ impl Plain {
     }
 }
 
-/// Puts a value under a name of a dictionary.
 fn put_in_dict(dicts: &mut [Pairs], d: Obj, n: Name, v: Value) -> Result<(), AllocError>
     ensures ok { OnOk result (dicts.new ≡ slice_set dicts.old d (with_value n v (slice_index_or dicts.old d []))) }
     ensures err { OnErr result (dicts.new ≡ dicts.old) }
@@ -143,17 +127,20 @@ fn put_in_dict(dicts: &mut [Pairs], d: Obj, n: Name, v: Value) -> Result<(), All
     Ok(())
 }
 
-/// Takes a name out of a dictionary.
-fn cut_in_dict(dicts: &mut [Pairs], d: Obj, n: Name)
-    ensures { dicts.new ≡ slice_set dicts.old d (without n (slice_index_or dicts.old d [])) }
+/// Takes a name out of a dictionary, and gives the value that it had.
+fn cut_in_dict(dicts: &mut [Pairs], d: Obj, n: Name) -> Option<Value>
+    ensures value { result ≡ value_at n (slice_index_or dicts.old d []) }
+    ensures names { dicts.new ≡ slice_set dicts.old d (without n (slice_index_or dicts.old d [])) }
+    ensures absent { result ≡ None → dicts.new ≡ dicts.old }
 {
     let i = usize::from(d.number());
     if i < dicts.len() {
-        let _ = dicts[i].cut(n);
+        dicts[i].cut(n)
+    } else {
+        None
     }
 }
 
-/// Puts an object in the place of the one with this number, where it is made.
 fn replace_object(objects: &mut [Object], o: Obj, now: Object)
     ensures { objects.new ≡ slice_set objects.old o now }
 {

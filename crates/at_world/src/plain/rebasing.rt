@@ -6,14 +6,14 @@ ghost use Rattle.at_value.specs.Widths as widths;
 ghost use Rattle.at_model.specs.World as world;
 ghost use Rattle.at_model.specs.Step as steps;
 ghost use Rattle.at_model.specs.StoredOrders.{AreOrders};
-ghost use Rattle.at_world.specs.Plain.{lists_of};
+ghost use Rattle.at_world.specs.Plain.{IsOutcome, lists_of};
 ghost use Rattle.at_model.specs.Step.{is_empty};
 ghost use Rattle.at_world.specs.Rebasing.{rebased, AreNewOrders, AreRenewed, is_due, due_row, first_empty};
 
 use super::classes::has_duplicate;
+use super::lookup::class_row;
 use super::orders::{copies_of, is_empty_at, longest_len, order_or_empty, put_order};
 use super::{CLASSES, Plain};
-use crate::lookup::class_row;
 use at_c3::List;
 use at_model::ClassRow;
 use at_value::{Bases, Class, Reply};
@@ -23,7 +23,7 @@ impl Plain {
     /// Gives a class that is made other bases, where they are as they must be.
     pub(super) fn set_bases(&mut self, c: Class, bases: &Bases) -> Result<Reply, AllocError>
         requires { IsTrue (steps.are_made self.old.world (c ∷ bases.now)) }
-        ensures ok { IfOk result (λ reply. (reply ≡ (steps.set_bases_effect self.old.world c bases.now).reply) × (self.new ≡ record { world = (steps.set_bases_effect self.old.world c bases.now).world; place = self.old.place })) }
+        ensures ok { IfOk result (IsOutcome (steps.set_bases_effect self.old.world c bases.now) self.old self.new) }
         ensures err { OnErr result (self.new ≡ self.old) }
     {
         if c == Class::object() {
@@ -41,14 +41,12 @@ impl Plain {
         self.rebase(c, bases)
     }
 
-    /// Whether class c would stand above itself, were these its bases.
     fn is_cycle(&self, c: Class, bases: &[Class]) -> bool
         ensures { result ≡ steps.is_cycle self.now.world c bases.now }
     {
         bases.iter().any(|base| self.stands_above(c, *base))
     }
 
-    /// Whether class c stands in the order of a class.
     fn stands_above(&self, c: Class, base: Class) -> bool
         ensures { result ≡ steps.is_in_order c (world.order_of self.now.world base) }
     {
@@ -62,7 +60,8 @@ impl Plain {
     fn rebase(&mut self, c: Class, bases: &Bases) -> Result<Reply, AllocError>
         requires made { IsTrue (steps.are_made self.old.world (c ∷ bases.now)) }
         requires acyclic { steps.is_cycle self.old.world c bases.now ≡ false }
-        ensures ok { IfOk result (λ reply. let changed = steps.if_ordered self.old.world (steps.with_bases self.old.world c bases.now) in (reply ≡ changed.reply) × (self.new ≡ record { world = changed.world; place = self.old.place })) }
+        ensures ok { IfOk result (IsOutcome
+            (steps.if_ordered self.old.world (steps.with_bases self.old.world c bases.now)) self.old self.new) }
         ensures err { OnErr result (self.new ≡ self.old) }
     {
         let orders = new_orders(self.alloc, &self.classes, &self.orders, c, bases)?;
@@ -88,7 +87,7 @@ fn new_orders(
 ) -> Result<Vec<List>, AllocError>
     requires numbered { length classes.now ≡ widths.classes }
     requires ordered { length was.now ≡ widths.classes }
-    requires kept { AreOrders classes.now (lists_of was.now) }
+    requires orders { AreOrders classes.now (lists_of was.now) }
     requires made { IsTrue (list_all (λ b. is_some (world.row_of classes.now b)) (c ∷ bases.now)) }
     requires acyclic { list_any (λ b. steps.is_in_order c (world.order_in classes.now b)) bases.now ≡ false }
     ensures orders { IfOk result (λ orders. AreNewOrders (rebased classes.now c bases.now) (lists_of orders.items)) }
@@ -114,10 +113,11 @@ fn renew(
 ) -> Result<(), AllocError>
     requires numbered { length classes.now ≡ widths.classes }
     requires ordered { length was.now ≡ widths.classes }
-    requires kept { AreOrders classes.now (lists_of was.now) }
+    requires orders { AreOrders classes.now (lists_of was.now) }
     requires same { length orders.old ≡ widths.classes }
     requires most { suc long < 2 ^ 64 }
-    ensures { (bases : List ℕ) → let changed = rebased classes.now c bases in AreRenewed changed classes.now (lists_of was.now) c long 0 (lists_of orders.old)
+    ensures { (bases : List ℕ) → let changed = rebased classes.now c bases in
+        AreRenewed changed classes.now (lists_of was.now) c long 0 (lists_of orders.old)
         → OnOk result (AreRenewed changed classes.now (lists_of was.now) c (suc long) 0 (lists_of orders.new)) }
 {
     for i in 0..CLASSES {
@@ -132,7 +132,6 @@ fn renew(
     Ok(())
 }
 
-/// What is kept of the class with this number, where it is below c and its order had one class more than `long`.
 fn due_row<'a>(
     classes: &'a [Option<ClassRow>],
     was: &[List],
@@ -152,7 +151,6 @@ fn due_row<'a>(
     }
 }
 
-/// Whether class d is below c and its order has one class more than `long`.
 fn is_due(c: u16, long: usize, d: u16, order: &[u16]) -> bool
     requires { suc long < 2 ^ 64 }
     ensures { result ≡ is_due c long d order.now }
@@ -160,14 +158,12 @@ fn is_due(c: u16, long: usize, d: u16, order: &[u16]) -> bool
     d != c && order.len() == long + 1 && has_number(c, order)
 }
 
-/// Whether the number stands in the list.
 fn has_number(number: u16, list: &[u16]) -> bool
     ensures { result ≡ steps.has_number number list.now }
 {
     list.iter().any(|x| *x == number)
 }
 
-/// The least class that is made and whose order is empty.
 fn first_without(classes: &[Option<ClassRow>], orders: &[List]) -> Option<Class>
     requires numbered { length classes.now ≡ widths.classes }
     requires ordered { length orders.now ≡ widths.classes }
@@ -181,7 +177,6 @@ fn first_without(classes: &[Option<ClassRow>], orders: &[List]) -> Option<Class>
     None
 }
 
-/// Whether the class is made and its order is empty.
 fn is_without(classes: &[Option<ClassRow>], orders: &[List], c: u16) -> bool
     requires { c < length orders.now }
     ensures { result ≡ (is_some (world.row_of classes.now c) && is_empty (slice_index_or (lists_of orders.now) c [])) }
@@ -189,7 +184,6 @@ fn is_without(classes: &[Option<ClassRow>], orders: &[List], c: u16) -> bool
     class_row(classes, c).is_some() && is_empty_at(orders, c)
 }
 
-/// Gives a class other bases.
 fn replace_bases(classes: &mut [Option<ClassRow>], c: Class, bases: &Bases)
     requires numbered { length classes.old ≡ widths.classes }
     requires made { IsTrue (is_some (world.row_of classes.old c)) }

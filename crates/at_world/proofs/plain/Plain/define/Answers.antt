@@ -5,14 +5,14 @@ use Rattle.at_model.specs.World.{row_of, order_of}
 use Rattle.at_model.specs.Step.{with_class, if_ordered}
 use Rattle.at_model.specs.StoredOrders.{AreOrders}
 use Rattle.at_world.specs.Plain.{PlainState, lists_of}
-use Rattle.at_world.proofs.Definitions.{kept_defined, defined_state, refused_state}
+use Rattle.at_world.proofs.Definitions.{IsCoherent-defined, defined_state, refused_state}
 use Rattle.at_world.proofs.plain.Plain.define.Goals as goal
 
 pub invariant_of-self : goal.invariant_of-self
 invariant_of-self c =
     let IsFree : PlainState → Type 0 = λ s. row_of s.world.classes c.args.c ≡ None in
     let IsOrder : PlainState → Type 0 = λ s. order_of (with_class s.world c.args.c c.args.bases.now) c.args.c ≡ Some c.in-Ok.order.items in
-    kept_defined c.self.inside.classes.items c.self.inside.orders.items c.self.inside.objects.items c.self.inside.dicts.items c.args.c c.from-i.result c.args.bases.now c.new.result c.in-Ok.order
+    IsCoherent-defined c.self.inside.classes.items c.self.inside.orders.items c.self.inside.objects.items c.self.inside.dicts.items c.args.c c.from-i.result c.args.bases.now c.new.result c.in-Ok.order
     c.self.invariant (subst IsFree (sym c.self.view_is) c.requires.free) (omega (arith, c.number.ensures.same, c.number.ensures.range))
     (subst IsOrder (sym c.self.view_is) c.in-Ok.ensures.ordered) (omega (arith, c.from-i.ensures, c.number.ensures.same)) c.new.ensures
 

@@ -7,7 +7,7 @@ use Rattle.at_world.specs.Plain.{PlainState, lists_of}
 use Rattle.at_world.proofs.Definitions.{gathered_order}
 use Rattle.at_world.proofs.plain.Plain.order_with.Goals as goal
 
--- the order is that of the number and the bases, by the orders that are kept
+-- the order is that of the number and the bases, by the stored orders
 gathered : (c : goal.After-order_from)
     → order_of (with_class c.args.self.now.world c.args.c c.args.bases.now) c.args.c
     ≡ order_of_lists c.number.result c.as_slice.result.now (map (λ b. get_or (lists_of c.deref.result.now) b []) c.as_slice.result.now)

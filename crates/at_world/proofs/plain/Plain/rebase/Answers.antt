@@ -8,7 +8,7 @@ use Rattle.at_model.specs.Step.{are_made, if_ordered, with_bases}
 use Rattle.at_world.specs.Plain.{PlainState, lists_of}
 use Rattle.at_world.specs.Rebasing.{rebased, AreNewOrders, first_empty}
 use Rattle.at_world.proofs.Definitions.{refilled}
-use Rattle.at_world.proofs.Rebased.{subject_made, kept_rebased, rebase_refused, rebase_done}
+use Rattle.at_world.proofs.Rebased.{subject_made, IsCoherent-rebased, rebase_refused, rebase_done}
 use Rattle.at_world.proofs.plain.Plain.rebase.Goals as goal
 
 pub returns-in-Some-clause-ok : goal.returns-in-Some-clause-ok
@@ -44,7 +44,7 @@ invariant_of-self c =
     let same = refilled c.self.inside.classes.len classes c.replace_bases.new.classes (sym c.deref_mut.ensures.len ∙ ap length value) (c.replace_bases.auto.classes ∙ ap length value) in
     let now : c.replace_bases.new.classes ≡ rebased classes c.args.c c.args.bases.now = c.replace_bases.ensures ∙ ap (λ rows. rebased rows c.args.c c.args.bases.now) value in
     rw (same, now)
-    (kept_rebased classes (lists_of c.self.inside.orders.items) lists c.self.inside.objects.items c.self.inside.dicts.items c.args.c c.args.bases.now c.self.invariant made are (length-map c.in_ok-orders.orders.items (λ (l : SmallVec ℕ). l.items) ∙ c.in_ok-orders.ensures.long) first)
+    (IsCoherent-rebased classes (lists_of c.self.inside.orders.items) lists c.self.inside.objects.items c.self.inside.dicts.items c.args.c c.args.bases.now c.self.invariant made are (length-map c.in_ok-orders.orders.items (λ (l : SmallVec ℕ). l.items) ∙ c.in_ok-orders.ensures.long) first)
 
 pub returns-in-None-clause-ok : goal.returns-in-None-clause-ok
 returns-in-None-clause-ok c =

@@ -2,12 +2,12 @@ use Rattle.std.proofs.Common.{◌∙◌, ap, sym, length}
 use Rattle.at_value.specs.Pairs.{without}
 use Rattle.at_model.specs.World.{row_of, own_of}
 use Rattle.at_model.specs.Step.{with_names}
-use Rattle.at_world.proofs.Definitions.{kept_names, refilled}
+use Rattle.at_world.proofs.Definitions.{IsCoherent-names, refilled}
 use Rattle.at_world.proofs.plain.Plain.type_del.Goals as goal
 
 pub invariant_of-self : goal.invariant_of-self
 invariant_of-self c =
     let names = without c.args.n (own_of (row_of c.deref_mut.result.now c.args.c)) in
     let same = refilled c.self.inside.classes.len c.self.inside.classes.items c.cut_own.new.classes (sym c.deref_mut.ensures.len ∙ ap length c.deref_mut.ensures.value) (c.cut_own.auto.classes ∙ ap length c.deref_mut.ensures.value) in
-    rw same (kept_names c.self.inside.classes.items c.cut_own.new.classes _ _ _ c.args.c names c.self.invariant
-    (c.cut_own.ensures ∙ ap (λ classes. with_names classes c.args.c (row_of classes c.args.c) names) c.deref_mut.ensures.value))
+    rw same (IsCoherent-names c.self.inside.classes.items c.cut_own.new.classes _ _ _ c.args.c names c.self.invariant
+    (c.cut_own.ensures.names ∙ ap (λ classes. with_names classes c.args.c (row_of classes c.args.c) names) c.deref_mut.ensures.value))

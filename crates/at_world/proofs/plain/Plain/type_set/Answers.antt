@@ -2,12 +2,12 @@ use Rattle.std.proofs.Common.{◌∙◌, ap, sym, length}
 use Rattle.at_value.specs.Pairs.{with_value}
 use Rattle.at_model.specs.World.{row_of, own_of}
 use Rattle.at_model.specs.Step.{with_names}
-use Rattle.at_world.proofs.Definitions.{kept_names, refilled}
+use Rattle.at_world.proofs.Definitions.{IsCoherent-names, refilled}
 use Rattle.at_world.proofs.plain.Plain.type_set.Goals as goal
 
 pub invariant_of-self-2 : goal.invariant_of-self-2
 invariant_of-self-2 c =
     let names = with_value c.args.n c.args.v (own_of (row_of c.deref_mut.result.now c.args.c)) in
     let same = refilled c.self.inside.classes.len c.self.inside.classes.items c.put_own.new.classes (sym c.deref_mut.ensures.len ∙ ap length c.deref_mut.ensures.value) (c.put_own.auto.classes ∙ ap length c.deref_mut.ensures.value) in
-    rw same (kept_names c.self.inside.classes.items c.put_own.new.classes _ _ _ c.args.c names c.self.invariant
+    rw same (IsCoherent-names c.self.inside.classes.items c.put_own.new.classes _ _ _ c.args.c names c.self.invariant
     (c.in_ok-put_own.ensures.ok ∙ ap (λ classes. with_names classes c.args.c (row_of classes c.args.c) names) c.deref_mut.ensures.value))

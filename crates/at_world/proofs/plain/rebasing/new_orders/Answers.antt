@@ -21,7 +21,7 @@ loop-long-init c =
     let room : c.args.c < length was = omega (arith, length-map c.args.was.now (λ (l : SmallVec ℕ). l.items), c.requires.ordered, c.number-2.ensures.same, c.number-2.ensures.range) in
     rw same (record {
       renewed = subst (AreRenewed (rebased classes c.args.c c.args.bases.now) classes was c.args.c 0 0) (sym lists)
-          (renewed_first classes was c.args.c c.args.bases.now order c.requires.kept c.requires.made c.requires.acyclic room right);
+          (renewed_first classes was c.args.c c.args.bases.now order c.requires.orders c.requires.made c.requires.acyclic room right);
       numbered = c.put_order.auto.orders ∙ ap length c.deref_mut.ensures.value ∙ length-lists copies.items c.args.was.now c.in_ok-orders.ensures ∙ c.requires.ordered;
     })
 

@@ -22,7 +22,7 @@ loop-i-preserved c = λ bases first.
           let due : due_row classes was c.args.c c.args.long i ≡ Some w.in-Some.row.now = sym c.due_row.ensures ∙ ap option_copied w.in-Some.is in
           let right : order_or_none w.in_ok-order-in-Some.order.items ≡ order_by lists i w.in-Some.row.now.bases = w.in_ok-order-in-Some.ensures ∙ ap (order_by lists i) w.as_slice.ensures in
           subst (AreRenewed changed classes was c.args.c c.args.long (i + 1)) (sym (ap lists_of w.orders-is ∙ w.put_order.ensures))
-          (renewed_due classes was c.args.c c.args.long i bases lists w.in-Some.row.now w.in_ok-order-in-Some.order.items c.requires.kept so_far due room right)
+          (renewed_due classes was c.args.c c.args.long i bases lists w.in-Some.row.now w.in_ok-order-in-Some.order.items c.requires.orders so_far due room right)
       | in-None w ↦
           let skipped : due_row classes was c.args.c c.args.long i ≡ None = sym c.due_row.ensures ∙ ap option_copied w.in-None.is in
           subst (AreRenewed changed classes was c.args.c c.args.long (i + 1)) (sym (ap lists_of w.orders-is))

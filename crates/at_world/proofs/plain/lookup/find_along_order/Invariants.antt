@@ -1,6 +1,6 @@
 use Rattle.std.proofs.Common.{◌≡◌, drop}
 use Rattle.at_model.specs.World.{find_along}
-use Rattle.at_world.proofs.lookup.find_along_order.Given as goal
+use Rattle.at_world.proofs.plain.lookup.find_along_order.Given as goal
 
 -- the classes that are left give the value
 abbrev pub invariant-loop-c : goal.invariant-loop-c
