@@ -5,7 +5,6 @@ ghost use Rattle.at_desc.specs.Binding.{read_property, read_descriptor, bound, b
 use crate::descriptor::Three;
 use at_value::{Class, Func, HookKind, Name, Obj, Reply, Value};
 
-/// The reply to reading a property of object o.
 fn property_read(getter: Option<Func>, o: Obj) -> Reply
     ensures { result ≡ read_property getter o }
 {
@@ -21,7 +20,7 @@ fn property_read(getter: Option<Func>, o: Obj) -> Reply
     }
 }
 
-/// The reply to reading an attribute for which class c has object d, for the instance: an object of class c, or none.
+/// The instance is an object of class c, or none.
 fn descriptor_read(get: Option<Value>, d: Obj, instance: Value, c: Class) -> Reply
     ensures { result ≡ read_descriptor get d instance c }
 {
@@ -37,7 +36,6 @@ fn descriptor_read(get: Option<Value>, d: Obj, instance: Value, c: Class) -> Rep
     }
 }
 
-/// What a value of class c gives to object o.
 fn bind(t: Value, three: &Three, o: Obj, c: Class) -> Reply
     ensures { result ≡ bound t three.now o c }
 {
@@ -53,7 +51,8 @@ fn bind(t: Value, three: &Three, o: Obj, c: Class) -> Reply
 
 /// The reply to the look-up of a special method of object o of class c, or of a name after a class in c's order: what
 /// was found is t, and `three` is what t has as a descriptor. Nothing of the object's own counts, and `__getattr__`
-/// isn't tried. It is `NoAttr` exactly where there is no t, and `NoGetter` exactly where t is a property without a getter.
+/// isn't tried. It is `NoAttr` exactly where there is no t, and `NoGetter` exactly where t is a property without a
+/// getter.
 ///
 /// After the Python language reference, "Special method lookup" and "Invoking Descriptors", and the built-in `super`.
 pub fn bind_special(t: Option<Value>, three: &Three, o: Obj, c: Class) -> Reply
@@ -65,7 +64,6 @@ pub fn bind_special(t: Option<Value>, three: &Three, o: Obj, c: Class) -> Reply
     }
 }
 
-/// Whether what the class has comes before the object's own value.
 fn is_first(t: &Option<Value>, three: &Three) -> bool
     ensures { result ≡ comes_first t.now three.now }
 {
@@ -76,7 +74,6 @@ fn is_first(t: &Option<Value>, three: &Three) -> bool
     }
 }
 
-/// The hook of `__getattr__`, where it is there and the reply asks for it, else the reply.
 fn hook_or(a: Option<Value>, o: Obj, n: Name, reply: Reply) -> Reply
     ensures { result ≡ or_getattr a o n reply }
 {
@@ -133,7 +130,6 @@ pub fn bind_class(t: Option<Value>, three: &Three, c: Class) -> Reply
     }
 }
 
-/// What a value of a class gives to the class itself.
 fn bind_to_class(t: Value, three: &Three, class: Class) -> Reply
     ensures { result ≡ bound_to_class t three.now class }
 {

@@ -1,5 +1,6 @@
 //! The rows of the five tables, and beside each the neighbours that tell it from the next.
 ghost use Rattle.std.specs.Prelude.{◌<◌};
+ghost use Rattle.at_value.specs.Widths.{functions};
 
 use crate::{Three, bind_class, bind_del, bind_get, bind_set, bind_special};
 use at_value::{Class, Func, Name, Obj, Prop, Reply, Value};
@@ -7,7 +8,7 @@ use std::process::Abort;
 use std::test::Fail;
 
 fn function(n: u16) -> Func
-    requires { n < 1024 }
+    requires { n < functions }
 {
     Func::new(n).unwrap()
 }

@@ -5,7 +5,6 @@ ghost use Rattle.at_desc.specs.Binding.{write_property, write_descriptor, bound_
 use crate::descriptor::{Step, Three};
 use at_value::{Func, HookKind, Obj, Reply, Value};
 
-/// The reply to writing a property of object o.
 fn property_write(setter: Option<Func>, o: Obj, v: Value) -> Reply
     ensures { result ≡ write_property setter o v }
 {
@@ -21,7 +20,6 @@ fn property_write(setter: Option<Func>, o: Obj, v: Value) -> Reply
     }
 }
 
-/// How a write of object o goes on where the class has object d.
 fn descriptor_write(set: Option<Value>, del: Option<Value>, d: Obj, o: Obj, v: Value) -> Step
     ensures { result ≡ write_descriptor set del d o v }
 {
@@ -55,7 +53,6 @@ pub fn bind_set(t: Option<Value>, three: &Three, o: Obj, v: Value) -> Step
     }
 }
 
-/// The reply to deleting a property of object o.
 fn property_delete(deleter: Option<Func>, o: Obj) -> Reply
     ensures { result ≡ delete_property deleter o }
 {
@@ -71,7 +68,6 @@ fn property_delete(deleter: Option<Func>, o: Obj) -> Reply
     }
 }
 
-/// How a deletion at object o goes on where the class has object d.
 fn descriptor_delete(set: Option<Value>, del: Option<Value>, d: Obj, o: Obj) -> Step
     ensures { result ≡ delete_descriptor set del d o }
 {

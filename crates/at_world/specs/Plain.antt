@@ -59,6 +59,10 @@ pub record IsCoherent (classes : List (Option ClassRow)) (orders : List (List �
   pub few : length objects ≤ widths.objects
   pub named : length dicts ≡ length objects
 
+-- the lists of these classes
+abbrev pub orders_at : List (List ℕ) → List ℕ → List (List ℕ)
+orders_at orders classes = map (λ c. slice_index_or orders c []) classes
+
 -- the order that a list stands for: none where it is empty, since an order has its own class
 abbrev pub order_or_none : List ℕ → Option (List ℕ)
 order_or_none [] = None

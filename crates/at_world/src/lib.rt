@@ -7,5 +7,5 @@ mod plain;
 mod tests;
 
 pub use at_line::{Line, LineOp, LineReply, Lines, Local, Ran, What};
-pub use at_model::{ClassEnd, ClassEnds, ClassRow, Final, ObjEnd, ObjEnds, Object};
+pub use at_model::{ClassEnd, ClassEnds, Final, ObjEnd, ObjEnds};
 pub use plain::Plain;

@@ -1,6 +1,7 @@
 //! The data model on worked histories: what operations reply, one after another, and the namespaces at the end.
 
 ghost use Rattle.std.specs.Prelude.{◌<◌};
+ghost use Rattle.at_value.specs.Widths as widths;
 
 mod worked;
 
@@ -11,19 +12,19 @@ use std::process::Abort;
 use std::test::Fail;
 
 fn class(n: u16) -> Class
-    requires { n < 255 }
+    requires { n < widths.classes }
 {
     Class::new(n).unwrap()
 }
 
 fn object(n: u16) -> Obj
-    requires { n < 4096 }
+    requires { n < widths.objects }
 {
     Obj::new(n).unwrap()
 }
 
 fn name(n: u16) -> Name
-    requires { n < 4096 }
+    requires { n < widths.names }
 {
     Name::new(n).unwrap()
 }
@@ -34,14 +35,14 @@ fn function() -> Func {
 
 /// A class with one base.
 fn class_of(c: u16, base: u16) -> Op
-    requires { (c < 255) × (base < 255) }
+    requires { (c < widths.classes) × (base < widths.classes) }
 {
     Op::NewClass(class(c), Bases::only(class(base)))
 }
 
 /// A class with two bases.
 fn class_of_two(c: u16, first: u16, second: u16) -> Op
-    requires { (c < 255) × ((first < 255) × (second < 255)) }
+    requires { (c < widths.classes) × ((first < widths.classes) × (second < widths.classes)) }
 {
     let mut bases = Bases::only(class(first));
     let _ = bases.push(class(second));
@@ -158,7 +159,7 @@ fn has_order<R: Abort + AllocGlobal>(
     second: u16,
     wanted: &str,
 ) -> Result<(), Fail>
-    requires { (first < 255) × (second < 255) }
+    requires { (first < widths.classes) × (second < widths.classes) }
 {
     let mut plain = Plain::new(rt.alloc())?;
     for op in [
@@ -238,6 +239,6 @@ fn objects_come_to_an_end(rt: HostRuntime) -> Result<(), Fail> {
     }
     replies(&rt, &mut plain, &[(Op::New(class(1)), "Full")])?;
     let last = plain.last()?;
-    assert_eq!(rt; last.objects.len(), 4096);
+    assert_eq!(rt; last.objects.len(), usize::from(Obj::COUNT));
     Ok(())
 }

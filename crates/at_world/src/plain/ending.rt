@@ -1,4 +1,4 @@
-//! The final namespaces of the world that is kept.
+//! The final namespaces of the world.
 ghost use Rattle.std.specs.Prelude.{◌≡◌, IfOk, Some, map};
 ghost use Rattle.at_model.specs.World as world;
 ghost use Rattle.at_model.specs.Final.{final_of, class_ends, object_end, order_or_empty};
@@ -9,7 +9,8 @@ use at_value::{Class, ClassList, Pairs, Sequence};
 use std::alloc::AllocError;
 
 impl Plain {
-    /// The final namespaces.
+    /// The final namespaces: of each class that is made, by number, its order and its own names with their values, and
+    /// of each object, by number, its class and the names of its dictionary. The one error is out of memory.
     pub fn last(&self) -> Result<Final, AllocError>
         ensures { IfOk result (λ last. last ≡ final_of self.now.world) }
     {
@@ -18,7 +19,6 @@ impl Plain {
         Ok(Final { classes, objects })
     }
 
-    /// The classes that are made, by number.
     fn class_ends(&self) -> Result<Vec<ClassEnd>, AllocError>
         ensures { IfOk result (λ ends. ends.items ≡ class_ends self.now.world 0 self.now.world.classes) }
     {
@@ -34,10 +34,13 @@ impl Plain {
         Ok(ends)
     }
 
-    /// A class that is made, whose row this is.
     fn class_end(&self, c: Class, row: &ClassRow) -> Result<ClassEnd, AllocError>
         requires { world.row_of self.now.world.classes c ≡ Some row.now }
-        ensures { IfOk result (λ end. end ≡ record { class = c; order = order_or_empty (world.order_of self.now.world c); own = row.now.own }) }
+        ensures { IfOk result (λ end. end ≡ record {
+          class = c;
+          order = order_or_empty (world.order_of self.now.world c);
+          own = row.now.own;
+        }) }
     {
         let order = match self.order_list(c)? {
             Some(order) => order,
@@ -50,7 +53,6 @@ impl Plain {
         })
     }
 
-    /// The objects, by number.
     fn object_ends(&self) -> Result<Vec<ObjEnd>, AllocError>
         ensures { IfOk result (λ ends. ends.items ≡ map (object_end self.now.world) self.now.world.objects) }
     {

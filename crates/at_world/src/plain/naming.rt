@@ -7,7 +7,6 @@ use super::lookup::class_row;
 use at_value::{Class, Obj, Op, Value};
 
 impl Plain {
-    /// Whether each object that the operation names is made.
     pub(super) fn has_objects(&self, op: &Op) -> bool
         ensures { result ≡ steps.are_objects self.now.world (steps.objects_in op.now) }
     {
@@ -25,14 +24,12 @@ impl Plain {
         }
     }
 
-    /// Whether the object is made.
     fn has_object(&self, o: Obj) -> bool
         ensures { result ≡ nat_lt o (length self.now.world.objects) }
     {
         usize::from(o.number()) < self.objects.len()
     }
 
-    /// Whether the object that the value names is made, where it names one.
     fn has_object_in(&self, v: &Value) -> bool
         ensures { result ≡ steps.are_objects self.now.world (steps.object_in v.now) }
     {
@@ -42,7 +39,7 @@ impl Plain {
         }
     }
 
-    /// Whether each class that the operation names is made, but for one that it is to make.
+    /// A class that the operation is to make need not be made.
     pub(super) fn has_classes(&self, op: &Op) -> bool
         ensures { result ≡ steps.are_made self.now.world (steps.classes_in op.now) }
     {
@@ -61,21 +58,18 @@ impl Plain {
         }
     }
 
-    /// Whether the class is made.
     pub(super) fn has_class(&self, c: Class) -> bool
         ensures { result ≡ steps.is_made self.now.world c }
     {
         class_row(&self.classes, c.number()).is_some()
     }
 
-    /// Whether all these classes are made.
     fn has_all_classes(&self, classes: &[Class]) -> bool
         ensures { result ≡ steps.are_made self.now.world classes.now }
     {
         classes.iter().all(|c| self.has_class(*c))
     }
 
-    /// Whether the class that the value names is made, where it names one.
     fn has_class_in(&self, v: &Value) -> bool
         ensures { result ≡ steps.are_made self.now.world (steps.class_in v.now) }
     {

@@ -1,17 +1,16 @@
-//! Orders that are kept as lists, one for each class number, and orders that are computed from them.
+//! Stored orders, a list for each class number, and orders that are computed from them.
 ghost use Rattle.std.specs.Prelude.{◌≡◌, ◌≤◌, ◌<◌, [], ℕ, Some, None, IfOk, IsErrOf, length, map, slice_index_or, slice_set};
 ghost use Rattle.std.specs.List.{list_any};
 ghost use Rattle.at_value.specs.Widths as widths;
 ghost use Rattle.at_c3.specs.Merge.{order_of_lists};
 ghost use Rattle.at_model.specs.Step.{is_empty};
-ghost use Rattle.at_world.specs.Plain.{lists_of, order_or_none, order_by};
+ghost use Rattle.at_world.specs.Plain.{lists_of, orders_at, order_or_none, order_by};
 
 use at_c3::{List, MergeFault, order_of_slices};
 use at_value::Class;
 use smallvec::SmallVec;
 use std::alloc::{AllocError, Global};
 
-/// The order of a class with these bases, by the orders of the bases.
 pub(super) fn order_from(
     alloc: Global,
     orders: &[List],
@@ -19,8 +18,10 @@ pub(super) fn order_from(
     bases: &[Class],
 ) -> Result<List, MergeFault>
     requires { length orders.now ≡ widths.classes }
-    ensures ordered { IfOk result (λ order. order_of_lists c bases.now (map (λ b. slice_index_or (lists_of orders.now) b []) bases.now) ≡ Some order.items) }
-    ensures none { IsErrOf result MergeFault.NoHead → order_of_lists c bases.now (map (λ b. slice_index_or (lists_of orders.now) b []) bases.now) ≡ None }
+    ensures ordered { IfOk result
+        (λ order. order_of_lists c bases.now (orders_at (lists_of orders.now) bases.now) ≡ Some order.items) }
+    ensures none { IsErrOf result MergeFault.NoHead
+        → order_of_lists c bases.now (orders_at (lists_of orders.now) bases.now) ≡ None }
 {
     let mut numbers: SmallVec<u16, 8> = SmallVec::new(alloc);
     let mut found: SmallVec<&[u16], 8> = SmallVec::new(alloc);
@@ -31,8 +32,7 @@ pub(super) fn order_from(
     order_of_slices(alloc, c, numbers.as_slice(), found.as_slice())
 }
 
-/// The order of a class with these bases, and the empty list where it has none, by the orders of the bases, each of
-/// which may be empty too.
+/// The empty list stands for no order, also of the bases.
 pub(super) fn order_or_empty(
     alloc: Global,
     orders: &[List],
@@ -52,7 +52,6 @@ pub(super) fn order_or_empty(
     }
 }
 
-/// Whether the order of one of these classes is empty.
 fn has_unordered(orders: &[List], classes: &[Class]) -> bool
     requires { length orders.now ≡ widths.classes }
     ensures { result ≡ list_any (λ c. is_empty (slice_index_or (lists_of orders.now) c [])) classes.now }
@@ -60,7 +59,6 @@ fn has_unordered(orders: &[List], classes: &[Class]) -> bool
     classes.iter().any(|c| is_empty_at(orders, c.number()))
 }
 
-/// Whether the list with this number is empty.
 pub(super) fn is_empty_at(orders: &[List], c: u16) -> bool
     requires { c < length orders.now }
     ensures { result ≡ is_empty (slice_index_or (lists_of orders.now) c []) }
@@ -68,7 +66,6 @@ pub(super) fn is_empty_at(orders: &[List], c: u16) -> bool
     orders[usize::from(c)].is_empty()
 }
 
-/// Copies of the lists.
 pub(super) fn copies_of(alloc: Global, orders: &[List]) -> Result<Vec<List>, AllocError>
     ensures { IfOk result (λ copies. lists_of copies.items ≡ lists_of orders.now) }
 {
@@ -79,7 +76,6 @@ pub(super) fn copies_of(alloc: Global, orders: &[List]) -> Result<Vec<List>, All
     Ok(copies)
 }
 
-/// Puts an order in the place of the list with this number.
 pub(super) fn put_order(orders: &mut [List], c: u16, order: List)
     requires { c < length orders.old }
     ensures { lists_of orders.new ≡ slice_set (lists_of orders.old) c order.items }
@@ -87,7 +83,6 @@ pub(super) fn put_order(orders: &mut [List], c: u16, order: List)
     orders[usize::from(c)] = order;
 }
 
-/// The length of the longest list.
 pub(super) fn longest_len(orders: &[List]) -> usize
     ensures { (i : ℕ) → length (slice_index_or (lists_of orders.now) i []) ≤ result }
 {

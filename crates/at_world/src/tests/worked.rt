@@ -1,6 +1,7 @@
 //! Worked histories, each as the operations with their replies and the count of writes at the end.
 
 ghost use Rattle.std.specs.Prelude.{◌<◌};
+ghost use Rattle.at_value.specs.Widths as widths;
 
 use super::{class, class_of, class_of_two, function, name, object, replies};
 use crate::Plain;
@@ -10,14 +11,14 @@ use std::test::Fail;
 
 /// Gives class c one base.
 fn bases_of(c: u16, base: u16) -> Op
-    requires { (c < 255) × (base < 255) }
+    requires { (c < widths.classes) × (base < widths.classes) }
 {
     Op::SetBases(class(c), Bases::only(class(base)))
 }
 
 /// Gives class c two bases.
 fn bases_of_two(c: u16, first: u16, second: u16) -> Op
-    requires { (c < 255) × ((first < 255) × (second < 255)) }
+    requires { (c < widths.classes) × ((first < widths.classes) × (second < widths.classes)) }
 {
     let mut bases = Bases::only(class(first));
     let _ = bases.push(class(second));
@@ -26,21 +27,21 @@ fn bases_of_two(c: u16, first: u16, second: u16) -> Op
 
 /// Puts a number under name 5 of a class.
 fn put(c: u16, value: i32) -> Op
-    requires { c < 255 }
+    requires { c < widths.classes }
 {
     Op::TypeSet(class(c), name(5), Value::Int(value))
 }
 
 /// Writes a number under name 5 of an object.
 fn set(o: u16, value: i32) -> Op
-    requires { o < 4096 }
+    requires { o < widths.objects }
 {
     Op::Set(object(o), name(5), Value::Int(value))
 }
 
 /// Reads name 5 of an object.
 fn get(o: u16) -> Op
-    requires { o < 4096 }
+    requires { o < widths.objects }
 {
     Op::Get(object(o), name(5))
 }
