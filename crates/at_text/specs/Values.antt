@@ -2,7 +2,7 @@
 use Rattle.std.specs.Prelude.{ℕ, List, [], ◌++◌, Option, Some, None, unwrap_or, slice_get, codes, decimal}
 use Rattle.std.specs.List.{flat_map}
 use Rattle.std.specs.Fmt.{signed_decimal}
-use Rattle.at_value.specs.Parts.{ScriptParts as Properties}
+use Rattle.at_value.specs.Parts.{PropertyParts}
 use Rattle.at_value.specs.declared.value.Value as values
 use Rattle.at_value.specs.declared.value.Value.TheVariants.{Nothing, Int, Text, Func, Prop, Static, ClassM, Class, Obj}
 use Rattle.at_script.specs.Parts.{ScriptParts}
@@ -42,7 +42,7 @@ part_text s None = codes "-"
 part_text s (Some f) = text_at s.funcs f
 
 -- a property: its getter, setter and deleter
-abbrev pub property_text : ScriptParts → Properties → List ℕ
+abbrev pub property_text : ScriptParts → PropertyParts → List ℕ
 property_text s p = codes "prop:" ++ part_text s p.get ++ codes "," ++ part_text s p.set ++ codes "," ++ part_text s p.del
 
 -- A value, as scripts write it; an object, which none writes, is `#N`.
