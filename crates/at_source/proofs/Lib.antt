@@ -1,3 +1,3 @@
+pub mod Known
 pub mod Pieces
 pub mod Printing
-pub mod Told

@@ -5,7 +5,7 @@ use Rattle.std.proofs.Math.Seq.{take-add}
 use Rattle.std.specs.Io.KnownBytes.{append_known}
 use Rattle.at_source.specs.Page.{Held, Writes, Printed}
 use Rattle.at_source.specs.Whole.{GrewByPrefix}
-use Rattle.at_source.proofs.Told.{append_known-append, append_known-nil}
+use Rattle.at_source.proofs.Known.{append_known-append, append_known-nil}
 
 -- Bytes that are sent past an empty page are written, or a prefix of them is and the page failed.
 pub sent_past : {T E : Type 0} (o o' : Option (List ℕ)) (page page' : Held) (bytes : List ℕ) (result : Result T E) → page.failed ≡ false → page.bytes ≡ [] → page'.bytes ≡ [] → page'.failed ≡ is_err result
@@ -44,11 +44,11 @@ then_writes_if true a b c p q r xs ys is first second =
     let none = second.stopped is in
     let within : first.sent ≤ length all = first.within in
     let joined : all ++ ys ≡ p.bytes ++ (xs ++ ys) = append_assoc p.bytes xs ys in
-    let kept : c ≡ b = stopped_same second is in
+    let same : c ≡ b = stopped_same second is in
     record {
       sent = first.sent;
       within = omega (arith, ap length joined, length-append all ys);
-      grew = kept ∙ first.grew ∙ ap (append_known a) (sym (take-append-le first.sent all ys within) ∙ ap (take first.sent) joined);
+      grew = same ∙ first.grew ∙ ap (append_known a) (sym (take-append-le first.sent all ys within) ∙ ap (take first.sent) joined);
       held = λ no. absurd (cc (no, none.1));
       stopped = λ was. ((first.stopped was).0, none.1);
     }
@@ -75,7 +75,7 @@ then_writes_if false a b c p q r xs ys is first second =
 pub then_writes : {a b c : Option (List ℕ)} {p q r : Held} {xs ys : List ℕ} → Writes a p b q xs → Writes b q c r ys → Writes a p c r (xs ++ ys)
 then_writes {a} {b} {c} {p} {q} {r} {xs} {ys} first second = then_writes_if q.failed a b c p q r xs ys refl first second
 
--- the text may be told in another way
+-- the same text in other words
 pub writes_same : {a b : Option (List ℕ)} {p q : Held} {xs ys : List ℕ} → Writes a p b q xs → xs ≡ ys → Writes a p b q ys
 writes_same {a} {b} {p} {q} writes same = subst (Writes a p b q) same writes
 

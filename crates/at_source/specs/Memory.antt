@@ -23,9 +23,11 @@ pub record SourceState : Type 0 where
   pub most : ℕ
   pub calls : CallState
 
--- A sink in memory: what was written, for how many more bytes there is room, and the most that a write takes.
+-- A sink in memory: what was written, for how many more bytes there is room, the most that a write takes, and whether a
+-- flush succeeded after the last byte that was taken.
 pub record SinkState : Type 0 where
   pub written : List ℕ
   pub room : ℕ
   pub most : ℕ
+  pub is_flushed : Bool
   pub calls : CallState

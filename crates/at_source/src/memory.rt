@@ -1,5 +1,5 @@
-//! A source and a sink in memory that tell their content and fail at chosen calls.
-ghost use Rattle.std.specs.Prelude.{◌≡◌, ◌+◌, ◌-◌, ◌<◌, ◌≤◌, ◌↔◌, ℕ, List, [], Option, Some, length, min, take, drop, vec_len, vec_capacity, IsErr, IsTrue, is_err, IfOk, OnErr, ◌++◌, ◌⊎◌};
+//! A source and a sink in memory, of known content, that fail at chosen calls.
+ghost use Rattle.std.specs.Prelude.{◌≡◌, ◌==◌, ◌+◌, ◌-◌, ◌<◌, ◌≤◌, ◌↔◌, ℕ, List, [], Option, Some, Bool, true, false, length, min, take, drop, vec_len, vec_capacity, IsErr, IsTrue, is_err, IfOk, OnErr, ◌++◌, ◌⊎◌, if◌then◌else◌};
 ghost use Rattle.at_source.specs.Faults.{one_more};
 ghost use Rattle.at_source.specs.Memory.{CallState, SourceState, SinkState, counted, fails_next};
 
@@ -102,14 +102,14 @@ impl Source for MemSource {
     fn read(&mut self, buf: &mut [u8]) -> Result<usize, Failed>
         // It fails at the chosen calls alone, and then gives nothing.
         ensures fails { IsErr result ↔ IsTrue (fails_next self.old.calls) }
-        ensures kept { OnErr result (self.new.left ≡ self.old.left) }
+        ensures unchanged { OnErr result (self.new.left ≡ self.old.left) }
 
         // Else it gives all that it may, at the beginning of `buf`.
         ensures count { IfOk result (λ k. k ≡ min (min self.old.most (length buf.old)) (length self.old.left)) }
         ensures prefix { IfOk result (λ k. self.old.left ≡ take k buf.new ++ self.new.left) }
         ensures rest { IfOk result (λ k. drop k buf.new ≡ drop k buf.old) }
 
-        // The call is counted, and the limit stays.
+        // The call is counted, and the limit is unchanged.
         ensures calls { self.new.calls ≡ counted self.old.calls (is_err result) }
         ensures later { self.old.calls.faults ≤ self.new.calls.faults }
         ensures limit { self.new.most ≡ self.old.most }
@@ -122,19 +122,20 @@ impl Source for MemSource {
     }
 }
 
-/// A sink that keeps what is written, up to the room that was reserved for it.
+/// A sink that holds what is written, up to the room that was reserved for it.
 #[derive(Drop)]
 pub struct MemSink {
     bytes: Vec<u8>,
     room: usize,
     most: usize,
+    is_flushed: bool,
     calls: Calls,
 }
 
 impl Model for MemSink {
     ghost Value = { SinkState };
 
-    ghost view = { λ s. record { written = s.bytes.items; room = s.room; most = s.most; calls = s.calls } };
+    ghost view = { λ s. record { written = s.bytes.items; room = s.room; most = s.most; is_flushed = s.is_flushed; calls = s.calls } };
 
     ghost invariant = { λ s. (vec_len s.bytes + s.room ≤ vec_capacity s.bytes) × (0 < s.most) };
 }
@@ -152,12 +153,14 @@ impl MemSink {
         ensures written { IfOk result (λ s. s.written ≡ []) }
         ensures room { IfOk result (λ s. s.room ≡ room) }
         ensures most { IfOk result (λ s. s.most ≡ most) }
+        ensures flushed { IfOk result (λ s. IsTrue s.is_flushed) }
         ensures calls { IfOk result (λ s. s.calls ≡ record { fails = fails.items; made = 0; faults = 0 }) }
     {
         Ok(MemSink {
             bytes: Vec::with_capacity(alloc, room)?,
             room,
             most,
+            is_flushed: true,
             calls: Calls::new(fails),
         })
     }
@@ -173,19 +176,22 @@ impl MemSink {
 impl Sink for MemSink {
     ghost written = { λ s. Some s.written };
 
+    ghost is_flushed = { λ s. s.is_flushed };
+
     ghost faults = { λ s. s.calls.faults };
 
     fn write(&mut self, piece: &[u8]) -> Result<usize, Failed>
         // It fails at the chosen calls, and where there is no room for a piece that isn't empty.
         ensures fails { IsErr result ↔ (IsTrue (fails_next self.old.calls) ⊎ ((self.old.room ≡ 0) × (0 < length piece.now))) }
-        ensures kept { OnErr result (self.new.written ≡ self.old.written) }
+        ensures unchanged { OnErr result ((self.new.written ≡ self.old.written) × (self.new.is_flushed ≡ self.old.is_flushed)) }
 
         // Else it takes all that it may.
         ensures count { IfOk result (λ k. k ≡ min (min self.old.most (length piece.now)) self.old.room) }
         ensures taken { IfOk result (λ k. self.new.written ≡ self.old.written ++ take k piece.now) }
+        ensures flushed { IfOk result (λ k. self.new.is_flushed ≡ (if k == 0 then self.old.is_flushed else false)) }
         ensures room { self.new.room + length self.new.written ≡ self.old.room + length self.old.written }
 
-        // The call is counted, and the limit stays.
+        // The call is counted, and the limit is unchanged.
         ensures calls { self.new.calls ≡ counted self.old.calls (is_err result) }
         ensures later { self.old.calls.faults ≤ self.new.calls.faults }
         ensures limit { self.new.most ≡ self.old.most }
@@ -199,15 +205,18 @@ impl Sink for MemSink {
         }
         append(&mut self.bytes, &piece[..count]);
         self.room -= count;
+        self.is_flushed = self.is_flushed && count == 0;
         Ok(count)
     }
 
     fn flush(&mut self) -> Result<(), Failed>
         // It fails at the chosen calls alone, and changes nothing else.
         ensures fails { IsErr result ↔ IsTrue (fails_next self.old.calls) }
-        ensures after { self.new ≡ record self.old { calls = counted self.old.calls (is_err result) } }
+        ensures after { self.new ≡ record self.old { is_flushed = (if is_err result then self.old.is_flushed else true); calls = counted self.old.calls (is_err result) } }
         ensures later { self.old.calls.faults ≤ self.new.calls.faults }
     {
-        self.calls.begin()
+        self.calls.begin()?;
+        self.is_flushed = true;
+        Ok(())
     }
 }

@@ -1,5 +1,5 @@
 //! Std's input and output as a source and a sink.
-ghost use Rattle.std.specs.Prelude.{◌≡◌, ◌<◌, ◌≤◌, None, length, IfOk, is_ok, if◌then◌else◌};
+ghost use Rattle.std.specs.Prelude.{◌≡◌, ◌==◌, ◌<◌, ◌≤◌, None, OnErr, true, false, length, IfOk, IsTrue, is_ok, if◌then◌else◌};
 ghost use Rattle.std.specs.Io.KnownBytes.{ReadConsumes, WriteAppends, Keeps};
 ghost use Rattle.at_source.specs.Faults.{one_more};
 ghost use Rattle.at_source.specs.Standard.{ReaderState, WriterState};
@@ -9,7 +9,7 @@ use crate::source::{Failed, Source};
 use std::io::{Read, Write};
 use std::marker::Model;
 
-/// A reader of std as a source. Each error is a fault, that of an interrupted call too.
+/// A reader of std as a source of unknown content. Each error is a fault, that of an interrupted call too.
 #[derive(Drop)]
 pub struct StdSource<I: Read> {
     faults: u64,
@@ -23,7 +23,7 @@ impl<I: Read> Model for StdSource<I> {
 }
 
 impl<I: Read> StdSource<I> {
-    /// A source that reads `input`. It doesn't tell what is left.
+    /// A source that reads `input`.
     pub fn new(input: I) -> StdSource<I>
         ensures faults { result.faults ≡ 0 }
         ensures unread { result.unread ≡ I.remaining input }
@@ -40,10 +40,10 @@ impl<I: Read> Source for StdSource<I> {
     fn read(&mut self, buf: &mut [u8]) -> Result<usize, Failed>
         ensures most { IfOk result (λ k. k ≤ length buf.old) }
 
-        // What the reader tells of the bytes holds here too.
+        // What the reader's contract says of the bytes holds here too.
         ensures bytes { ReadConsumes self.old.unread self.new.unread result buf.new }
 
-        // The count rises at each error, and at nothing else.
+        // The count of faults rises by one where this call fails, and else is unchanged.
         ensures count { self.new.faults ≡ (if is_ok result then self.old.faults else one_more self.old.faults) }
         ensures later { self.old.faults ≤ self.new.faults }
     {
@@ -57,27 +57,33 @@ impl<I: Read> Source for StdSource<I> {
     }
 }
 
-/// A writer of std as a sink. Each error is a fault, that of an interrupted call too, and so is a write that takes
-/// nothing of a piece that isn't empty.
+/// A writer of std as a sink of unknown content. Each error is a fault, that of an interrupted call too, and so is a write
+/// that takes nothing of a piece that isn't empty.
 #[derive(Drop)]
 pub struct StdSink<O: Write> {
     faults: u64,
+    is_flushed: bool,
     out: O,
 }
 
 impl<O: Write> Model for StdSink<O> {
     ghost Value = { WriterState };
 
-    ghost view = { λ s. record { faults = s.faults; contents = O.contents s.out } };
+    ghost view = { λ s. record { faults = s.faults; is_flushed = s.is_flushed; contents = O.contents s.out } };
 }
 
 impl<O: Write> StdSink<O> {
-    /// A sink that writes to `out`. It doesn't tell what was written.
+    /// A sink that writes to `out`, through which nothing was written yet.
     pub fn new(out: O) -> StdSink<O>
         ensures faults { result.faults ≡ 0 }
+        ensures flushed { IsTrue result.is_flushed }
         ensures contents { result.contents ≡ O.contents out }
     {
-        StdSink { faults: 0, out }
+        StdSink {
+            faults: 0,
+            is_flushed: true,
+            out,
+        }
     }
 
     /// Counts a fault.
@@ -93,34 +99,47 @@ impl<O: Write> StdSink<O> {
 impl<O: Write> Sink for StdSink<O> {
     ghost written = { λ _. None };
 
+    ghost is_flushed = { λ s. s.is_flushed };
+
     ghost faults = { λ s. s.faults };
 
     fn write(&mut self, piece: &[u8]) -> Result<usize, Failed>
         ensures most { IfOk result (λ k. k ≤ length piece.now) }
         ensures some { 0 < length piece.now → IfOk result (λ k. 0 < k) }
 
-        // What the writer tells of the bytes holds here too.
+        // What the writer's contract says of the bytes holds here too.
         ensures bytes { WriteAppends self.old.contents self.new.contents result piece.now }
 
-        // The count rises at each error and where nothing is taken of a piece that isn't empty, and at nothing else.
+        // A byte that is taken waits for a flush.
+        ensures flushed { IfOk result (λ k. self.new.is_flushed ≡ (if k == 0 then self.old.is_flushed else false)) }
+        ensures unchanged { OnErr result (self.new.is_flushed ≡ self.old.is_flushed) }
+
+        // The count of faults rises by one where this call fails, and else is unchanged.
         ensures count { self.new.faults ≡ (if is_ok result then self.old.faults else one_more self.old.faults) }
         ensures later { self.old.faults ≤ self.new.faults }
     {
         match self.out.write(piece) {
-            Ok(count) if count > 0 || piece.is_empty() => Ok(count),
+            Ok(count) if count > 0 || piece.is_empty() => {
+                self.is_flushed = self.is_flushed && count == 0;
+                Ok(count)
+            }
             _ => Err(self.fault()),
         }
     }
 
     fn flush(&mut self) -> Result<(), Failed>
         ensures bytes { Keeps self.old.contents self.new.contents }
+        ensures flushed { self.new.is_flushed ≡ (if is_ok result then true else self.old.is_flushed) }
 
-        // The count rises at each error, and at nothing else.
+        // The count of faults rises by one where this call fails, and else is unchanged.
         ensures count { self.new.faults ≡ (if is_ok result then self.old.faults else one_more self.old.faults) }
         ensures later { self.old.faults ≤ self.new.faults }
     {
         match self.out.flush() {
-            Ok(()) => Ok(()),
+            Ok(()) => {
+                self.is_flushed = true;
+                Ok(())
+            }
             Err(_) => Err(self.fault()),
         }
     }

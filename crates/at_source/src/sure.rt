@@ -1,5 +1,5 @@
 //! A source and a sink that never fail.
-ghost use Rattle.std.specs.Prelude.{◌≡◌, ◌≤◌, ◌++◌, ℕ, List, None, Some, length, min, take, drop, vec_len, IfOk, IsOk, Ok};
+ghost use Rattle.std.specs.Prelude.{◌≡◌, ◌==◌, ◌≤◌, ◌++◌, ℕ, List, None, Some, Bool, true, false, length, min, take, drop, vec_len, IfOk, IsOk, IsTrue, Ok, if◌then◌else◌};
 
 use crate::bytes::copy_prefix;
 use crate::sink::Sink;
@@ -47,33 +47,51 @@ impl Source for SureSource {
     }
 }
 
-/// A sink that takes every piece whole and keeps none. It doesn't tell what was written.
-#[derive(Clone, Copy, Debug, Default, PartialEq, Eq)]
-pub struct SureSink;
+/// A sink of unknown content that takes every piece whole and holds none. Clauses see whether it is flushed.
+#[derive(Clone, Copy, Debug, PartialEq, Eq)]
+pub struct SureSink {
+    is_flushed: bool,
+}
+
+impl Model for SureSink {
+    ghost Value = { Bool };
+
+    ghost view = { λ s. s.is_flushed };
+
+    ghost inverse = { λ b. record { is_flushed = b } };
+}
 
 impl SureSink {
     /// A sink that takes every piece.
-    pub fn new() -> SureSink {
-        SureSink
+    pub fn new() -> SureSink
+        ensures { IsTrue result }
+    {
+        SureSink { is_flushed: true }
     }
 }
 
 impl Sink for SureSink {
     ghost written = { λ _. None };
 
+    ghost is_flushed = { λ s. s };
+
     ghost faults = { λ _. 0 };
 
     fn write(&mut self, piece: &[u8]) -> Result<usize, Failed>
         // It never fails, and takes every piece whole.
-        ensures { result ≡ Ok (length piece.now) }
+        ensures count { result ≡ Ok (length piece.now) }
+        ensures flushed { self.new ≡ (if length piece.now == 0 then self.old else false) }
     {
+        self.is_flushed = self.is_flushed && piece.is_empty();
         Ok(piece.len())
     }
 
     fn flush(&mut self) -> Result<(), Failed>
         // It never fails.
-        ensures { IsOk result }
+        ensures ok { IsOk result }
+        ensures flushed { IsTrue self.new }
     {
+        self.is_flushed = true;
         Ok(())
     }
 }

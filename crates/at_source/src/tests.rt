@@ -2,7 +2,8 @@
 
 use super::*;
 use std::alloc::{AllocError, Global};
-use std::io::BufWriter;
+use std::io;
+use std::io::{BufWriter, ErrorKind, Read, Write};
 use std::test::Fail;
 
 const TEXT: &[u8] = b"one\ntwo\nthree\n";
@@ -156,5 +157,116 @@ fn std_devices_give_and_take_bytes(rt: HostRuntime) -> Result<(), Fail> {
     let mut room = [0; 5];
     assert!(rt; send(&mut StdSink::new(room.as_mut_slice()), TEXT).is_err());
     assert!(rt; TEXT.starts_with(&room));
+    Ok(())
+}
+
+/// A reader and writer of std whose call of the number `fails` fails. Calls are counted from 0.
+#[derive(Drop)]
+struct FailsOnce {
+    fails: u64,
+    kind: ErrorKind,
+    calls: u64,
+}
+
+impl FailsOnce {
+    fn new(fails: u64, kind: ErrorKind) -> FailsOnce {
+        FailsOnce {
+            fails,
+            kind,
+            calls: 0,
+        }
+    }
+
+    fn begin(&mut self) -> io::Result<()> {
+        let number = self.calls;
+        self.calls = number.saturating_add(1);
+        if number == self.fails {
+            return Err(io::Error::from(self.kind));
+        }
+        Ok(())
+    }
+}
+
+impl Read for FailsOnce {
+    fn read(&mut self, _buf: &mut [u8]) -> io::Result<usize> {
+        self.begin()?;
+        Ok(0)
+    }
+}
+
+impl Write for FailsOnce {
+    fn write(&mut self, buf: &[u8]) -> io::Result<usize> {
+        self.begin()?;
+        Ok(buf.len())
+    }
+
+    fn flush(&mut self) -> io::Result<()> {
+        self.begin()
+    }
+}
+
+#[test]
+fn a_reader_that_fails_is_read_once_more_only_by_the_next_call(
+    rt: HostRuntime,
+) -> Result<(), Fail> {
+    for kind in [ErrorKind::Interrupted, ErrorKind::Other] {
+        let mut reader = FailsOnce::new(0, kind);
+        let mut source = StdSource::new(&mut reader);
+        assert_eq!(rt; source.read(&mut [0; 8]), Err(Failed));
+        assert_eq!(rt; source.read(&mut [0; 8]), Ok(0));
+        assert_eq!(rt; reader.calls, 2);
+    }
+    Ok(())
+}
+
+#[test]
+fn a_writer_that_fails_is_tried_once_a_call(rt: HostRuntime) -> Result<(), Fail> {
+    for (fails, wrote, flushed) in [
+        (0, Err(Failed), Ok(())),
+        (1, Ok(3), Err(Failed)),
+        (2, Ok(3), Ok(())),
+    ] {
+        for kind in [ErrorKind::Interrupted, ErrorKind::Other] {
+            let mut writer = FailsOnce::new(fails, kind);
+            let mut sink = StdSink::new(&mut writer);
+            assert_eq!(rt; sink.write(b"one"), wrote);
+            assert_eq!(rt; sink.flush(), flushed);
+            assert_eq!(rt; writer.calls, 2);
+        }
+    }
+    Ok(())
+}
+
+#[test]
+fn an_input_and_a_text_end_at_the_first_fault(rt: HostRuntime) -> Result<(), Fail> {
+    let alloc = rt.alloc();
+    let mut reader = FailsOnce::new(0, ErrorKind::Interrupted);
+    let read = read_all(alloc, &mut StdSource::new(&mut reader), 100);
+    assert_eq!(rt; read.err(), Some(ReadAllFault::Failed));
+    assert_eq!(rt; reader.calls, 1);
+
+    // the write, and then the flush
+    for (fails, calls) in [(0, 1), (1, 2)] {
+        let mut writer = FailsOnce::new(fails, ErrorKind::Interrupted);
+        let printed = printed(alloc, &mut StdSink::new(&mut writer), b"one")?;
+        assert_eq!(rt; printed, Err(Failed));
+        assert_eq!(rt; writer.calls, calls);
+    }
+    Ok(())
+}
+
+#[test]
+fn faults_are_told_in_words(rt: HostRuntime) -> Result<(), Fail> {
+    let alloc = rt.alloc();
+    let text = format!(in alloc;
+        "{Failed}, {}, {}, {}",
+        ReadAllFault::Failed,
+        ReadAllFault::TooLong,
+        ReadAllFault::NoMemory
+    )?;
+    assert_eq!(rt;
+        text.as_str(),
+        "a device failed, the input failed, the input is too long, out of memory"
+    );
     Ok(())
 }

@@ -4,7 +4,7 @@ use Rattle.std.proofs.lemmas.List.{flat_map_more, take_more, take_all}
 use Rattle.std.specs.List.{flat_map}
 use Rattle.at_source.specs.Faults.{Rose}
 use Rattle.at_source.specs.Page.{Held, Writes, Printed, empty_page}
-use Rattle.at_source.proofs.Told.{append_known-nil}
+use Rattle.at_source.proofs.Known.{append_known-nil}
 use Rattle.at_source.proofs.Printing.{then_writes}
 use Rattle.at_text.specs.Prints.{Point, Prints, item_text}
 use Rattle.at_model.specs.declared.last.ObjEnd.{ObjEnd}

@@ -1,4 +1,4 @@
-use Rattle.std.proofs.Common.{◌≡◌, ◌≤◌, ◌-◌, take, vec_len}
+use Rattle.std.proofs.Common.{◌≡◌, ◌+◌, ◌*◌, ◌≤◌, ◌-◌, take, vec_len, vec_capacity}
 use Rattle.std.specs.Io.KnownBytes.{prepend_known}
 use Rattle.at_source.proofs.whole.read_all.Given as goal
 
@@ -8,9 +8,10 @@ invariant-loop-filled g l =
     let faults = g.S.Source.faults in
     record {
       within : l.filled ≤ vec_len l.bytes;
-      bound : vec_len l.bytes ≤ l.most;
+      bound : vec_capacity l.bytes ≤ l.most;
+      room : vec_capacity l.bytes ≤ 8192 + 2 * l.filled;
       given : left l.fn.source ≡ prepend_known (take l.filled l.bytes.items) (left l.source);
-      later : faults l.fn.source ≤ faults l.source;
+      no_fault : faults l.source ≡ faults l.fn.source;
     }
 
 abbrev pub decreases-loop-filled : goal.decreases-loop-filled

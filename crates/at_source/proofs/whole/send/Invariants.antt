@@ -9,7 +9,7 @@ invariant-loop-sent g l =
     record {
       within : l.sent ≤ length l.bytes;
       prefix : written l.out ≡ append_known (written l.fn.out) (take l.sent l.bytes);
-      later : faults l.fn.out ≤ faults l.out;
+      no_fault : faults l.out ≡ faults l.fn.out;
     }
 
 abbrev pub decreases-loop-sent : goal.decreases-loop-sent

@@ -1,21 +1,21 @@
--- Content that is told, or isn't, and grows or is taken piece by piece.
+-- Content that is known, or isn't, and grows or is taken piece by piece.
 use Rattle.std.proofs.Common.{◌≡◌, ◌∙◌, ap, sym, refl, ℕ, ◌+◌, ◌-◌, List, [], ◌++◌, take, drop, length, append_assoc, Option, Some, None, append-nil}
 use Rattle.std.proofs.lemmas.List.{take_rest}
 use Rattle.std.proofs.Math.Seq.{take-add}
 use Rattle.std.specs.Io.KnownBytes.{append_known, prepend_known}
 
 -- what grew twice grew by both pieces
-pub append_known-append : (told : Option (List ℕ)) (xs ys : List ℕ) → append_known (append_known told xs) ys ≡ append_known told (xs ++ ys)
+pub append_known-append : (known : Option (List ℕ)) (xs ys : List ℕ) → append_known (append_known known xs) ys ≡ append_known known (xs ++ ys)
 append_known-append None xs ys = refl
 append_known-append (Some bytes) xs ys = ap Some (append_assoc bytes xs ys)
 
 -- what grew by nothing is the same
-pub append_known-nil : (told : Option (List ℕ)) → append_known told [] ≡ told
+pub append_known-nil : (known : Option (List ℕ)) → append_known known [] ≡ known
 append_known-nil None = refl
 append_known-nil (Some bytes) = ap Some (append-nil bytes)
 
 -- what lost two pieces lost both
-pub prepend_known-append : (xs ys : List ℕ) (told : Option (List ℕ)) → prepend_known xs (prepend_known ys told) ≡ prepend_known (xs ++ ys) told
+pub prepend_known-append : (xs ys : List ℕ) (known : Option (List ℕ)) → prepend_known xs (prepend_known ys known) ≡ prepend_known (xs ++ ys) known
 prepend_known-append xs ys None = refl
 prepend_known-append xs ys (Some bytes) = ap Some (sym (append_assoc xs ys bytes))
 
