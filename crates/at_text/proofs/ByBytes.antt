@@ -17,7 +17,7 @@ use Rattle.at_value.specs.Pairs.{AreAbove, IsRising}
 use Rattle.at_value.specs.Widths as widths
 use Rattle.at_script.specs.Parts.{ScriptParts}
 use Rattle.at_text.specs.Values.{text_at}
-use Rattle.at_text.specs.Last.{with_pair, by_bytes}
+use Rattle.at_text.specs.Last.{inserted, by_bytes}
 use Rattle.at_text.specs.Order.{name_cmp, IsUpto, key_at, AreKeys}
 use Rattle.at_text.proofs.Sorting.{In, In-permutation, IsOrderly, orderly_unique, orderly_from_keys, contains_from_in}
 
@@ -43,7 +43,7 @@ IsUpto-antisymmetric texts a b p q =
     let back : is_gt (ordering_reverse (name_cmp texts a b)) ≡ false = ap is_gt (sym ((name_cmp_total texts).antisymm b a)) ∙ q in
     same_if (slice_cmp nat_cmp (text_at texts a) (text_at texts b)) a b (tied_if (name_cmp texts a b) p back)
 
--- what the test of `with_pair` says, for a name of a lower number
+-- what the test of `inserted` says, for a name of a lower number
 upto_if : (o : Ordering) (a b : ℕ) → is_lt o ≡ true → is_gt (ordering_then o (nat_cmp b a)) ≡ false
 upto_if Less a b is = refl
 upto_if Equal a b is = absurd cc
@@ -79,32 +79,32 @@ rising_once (z ∷ xs) rising x y (inr p) (inl q) same =
 rising_once (z ∷ xs) rising x y (inr p) (inr q) same = rising_once xs rising.1 x y p q same
 
 module _ (s : ScriptParts) where
-  -- the test of `with_pair`
+  -- the test of `inserted`
   abbrev first : ℕ × Value → ℕ × Value → Bool
   first pair next = is_lt (slice_cmp nat_cmp (text_at s.names pair.0) (text_at s.names next.0))
 
   abbrev placed : Bool → ℕ × Value → ℕ × Value → List (ℕ × Value) → List (ℕ × Value)
-  placed b pair next rest = cond b (pair ∷ next ∷ rest) (next ∷ with_pair s pair rest)
+  placed b pair next rest = cond b (pair ∷ next ∷ rest) (next ∷ inserted s pair rest)
 
-  sum_if : (f : ℕ × Value → ℕ) (b : Bool) (pair next : ℕ × Value) (rest : List (ℕ × Value)) → sum_by f (with_pair s pair rest) ≡ f pair + sum_by f rest → sum_by f (placed b pair next rest) ≡ f pair + sum_by f (next ∷ rest)
+  sum_if : (f : ℕ × Value → ℕ) (b : Bool) (pair next : ℕ × Value) (rest : List (ℕ × Value)) → sum_by f (inserted s pair rest) ≡ f pair + sum_by f rest → sum_by f (placed b pair next rest) ≡ f pair + sum_by f (next ∷ rest)
   sum_if f true pair next rest more = sum_by-cons f pair (next ∷ rest)
-  sum_if f false pair next rest more = omega (arith, more, sum_by-cons f next (with_pair s pair rest), sum_by-cons f next rest)
+  sum_if f false pair next rest more = omega (arith, more, sum_by-cons f next (inserted s pair rest), sum_by-cons f next rest)
 
-  sum_with : (f : ℕ × Value → ℕ) (pair : ℕ × Value) (l : List (ℕ × Value)) → sum_by f (with_pair s pair l) ≡ f pair + sum_by f l
+  sum_with : (f : ℕ × Value → ℕ) (pair : ℕ × Value) (l : List (ℕ × Value)) → sum_by f (inserted s pair l) ≡ f pair + sum_by f l
   sum_with f pair [] = sum_by-cons f pair []
   sum_with f pair (next ∷ rest) = sum_if f (first pair next) pair next rest (sum_with f pair rest)
 
-  -- sorting keeps the pairs
+  -- sorting changes no sum over the pairs
   pub sum_by_bytes : (f : ℕ × Value → ℕ) (l : List (ℕ × Value)) → sum_by f (by_bytes s l) ≡ sum_by f l
   sum_by_bytes f [] = refl
   sum_by_bytes f (pair ∷ l) = sum_with f pair (by_bytes s l) ∙ ap (λ n. f pair + n) (sum_by_bytes f l) ∙ sym (sum_by-cons f pair l)
 
-  in_if : (z : ℕ × Value) (b : Bool) (pair next : ℕ × Value) (rest : List (ℕ × Value)) → (In z (with_pair s pair rest) → (pair ≡ z) ⊎ In z rest) → In z (placed b pair next rest) → (pair ≡ z) ⊎ In z (next ∷ rest)
+  in_if : (z : ℕ × Value) (b : Bool) (pair next : ℕ × Value) (rest : List (ℕ × Value)) → (In z (inserted s pair rest) → (pair ≡ z) ⊎ In z rest) → In z (placed b pair next rest) → (pair ≡ z) ⊎ In z (next ∷ rest)
   in_if z true pair next rest more within = within
   in_if z false pair next rest more (inl is) = inr (inl is)
   in_if z false pair next rest more (inr within) = elim (more within) [ inl is ↦ inl is | inr there ↦ inr (inr there) ]
 
-  in_with : (z pair : ℕ × Value) (l : List (ℕ × Value)) → In z (with_pair s pair l) → (pair ≡ z) ⊎ In z l
+  in_with : (z pair : ℕ × Value) (l : List (ℕ × Value)) → In z (inserted s pair l) → (pair ≡ z) ⊎ In z l
   in_with z pair [] within = within
   in_with z pair (next ∷ rest) within = in_if z (first pair next) pair next rest (in_with z pair rest) within
 
@@ -121,7 +121,7 @@ module _ (s : ScriptParts) where
   next_upto pair next rest upto_it before y (inl is) = subst (λ (z : ℕ × Value). IsUpto s.names next.0 z.0) is upto_it
   next_upto pair next rest upto_it before y (inr within) = before y within
 
-  orderly_if : (b : Bool) (pair next : ℕ × Value) (rest : List (ℕ × Value)) → first pair next ≡ b → pair.0 < next.0 → IsOrderly (IsUpto s.names) (next ∷ rest) → IsOrderly (IsUpto s.names) (with_pair s pair rest) → IsOrderly (IsUpto s.names) (placed b pair next rest)
+  orderly_if : (b : Bool) (pair next : ℕ × Value) (rest : List (ℕ × Value)) → first pair next ≡ b → pair.0 < next.0 → IsOrderly (IsUpto s.names) (next ∷ rest) → IsOrderly (IsUpto s.names) (inserted s pair rest) → IsOrderly (IsUpto s.names) (placed b pair next rest)
   orderly_if true pair next rest is below orderly more =
       let upto_it = upto_if (slice_cmp nat_cmp (text_at s.names pair.0) (text_at s.names next.0)) pair.0 next.0 is in
       (upto_next pair next rest upto_it orderly.0, orderly)
@@ -129,7 +129,7 @@ module _ (s : ScriptParts) where
       let upto_it = from_else s.names pair.0 next.0 below is in
       (λ y within. next_upto pair next rest upto_it orderly.0 y (in_with y pair rest within), more)
 
-  orderly_with : (pair : ℕ × Value) (l : List (ℕ × Value)) → ((y : ℕ × Value) → In y l → pair.0 < y.0) → IsOrderly (IsUpto s.names) l → IsOrderly (IsUpto s.names) (with_pair s pair l)
+  orderly_with : (pair : ℕ × Value) (l : List (ℕ × Value)) → ((y : ℕ × Value) → In y l → pair.0 < y.0) → IsOrderly (IsUpto s.names) l → IsOrderly (IsUpto s.names) (inserted s pair l)
   orderly_with pair [] below orderly = (λ y none. absurd none, tt)
   orderly_with pair (next ∷ rest) below orderly =
       orderly_if (first pair next) pair next rest refl (below next (inl refl)) orderly

@@ -78,22 +78,22 @@ given_more sorted keys i n key within at is given =
       all = λ k below.
           elim (written (slice_index sorted k)) [
             | inl new ↦ omega (arith, new.1)
-            | inr kept ↦
+            | inr same ↦
                 elim (eqb_tells k i) [
-                  | inl last ↦ absurd (kept.0 (ap (slice_index sorted) last.1 ∙ sym at))
-                  | inr before ↦ (let low : k < i = omega (arith, before.1) in omega (arith, kept.1, given.all k low))
+                  | inl last ↦ absurd (same.0 (ap (slice_index sorted) last.1 ∙ sym at))
+                  | inr before ↦ (let low : k < i = omega (arith, before.1) in omega (arith, same.1, given.all k low))
                 ]
           ];
       within = λ m high.
           elim (written m) [
             | inl new ↦ omega (arith, new.1)
-            | inr kept ↦ (let old : widths.names ≤ slice_index keys m = omega (arith, kept.1) in omega (arith, kept.1, given.within m old))
+            | inr same ↦ (let old : widths.names ≤ slice_index keys m = omega (arith, same.1) in omega (arith, same.1, given.within m old))
           ];
       places = λ m high.
           elim (written m) [
             | inl new ↦ (let place : slice_index (set keys n key) m - widths.names ≡ i = omega (arith, new.1) in ap (slice_index sorted) place ∙ sym at ∙ sym new.0)
-            | inr kept ↦
-                (let old : widths.names ≤ slice_index keys m = omega (arith, kept.1) in ap (λ k. slice_index sorted (k - widths.names)) kept.1 ∙ given.places m old)
+            | inr same ↦
+                (let old : widths.names ≤ slice_index keys m = omega (arith, same.1) in ap (λ k. slice_index sorted (k - widths.names)) same.1 ∙ given.places m old)
           ];
     }
 

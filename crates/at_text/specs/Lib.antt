@@ -4,3 +4,4 @@ pub mod Lines
 pub mod Last
 pub mod Order
 pub mod Transcript
+pub mod Printable

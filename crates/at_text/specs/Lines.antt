@@ -95,7 +95,7 @@ line_reply_text s (line_reply.Of r) = reply_text s r
 line_reply_text s line_reply.Kept = codes "kept"
 line_reply_text s (line_reply.Suspended n) = codes "suspended " ++ decimal n
 
--- why a call didn't go the fast way; the words that it loaded aren't told
+-- why a call didn't go the fast way; the words that it loaded aren't written
 abbrev pub miss_word : misses.Miss → List ℕ
 miss_word (miss.Untagged c) = codes "untagged"
 miss_word (miss.Unlike e) = codes "unlike"

@@ -1,4 +1,6 @@
 //! Printing the final namespaces.
+#![tactic(auto, using(crate::proofs::Printing::then_texts))]
+
 ghost use Rattle.std.specs.Prelude.{◌≡◌, slice_get};
 ghost use Rattle.std.specs.List.{flat_map};
 ghost use Rattle.at_text.specs.Last.{pair_text, own_text, class_end_text, object_end_text, object_ends_text};
@@ -15,150 +17,133 @@ use at_source::Sink;
 use at_value::{Name, Pairs, Value};
 
 /// Prints a name and its value, as `.x V`.
-fn put_pair<K: Sink>(out: &mut K, pen: &mut Pen, names: &Script, name: Name, value: &Value)
-    ensures { Prints (K.written out.old, K.faults out.old, pen.old) (K.written out.new, K.faults out.new, pen.new) (pair_text names.now (name, value.now)) }
+fn put_pair<K: Sink>(pen: &mut Pen<'_, K>, names: &Script, name: Name, value: &Value)
+    ensures { Prints pen.old pen.new (pair_text names.now (name, value.now)) }
 {
-    pen.write(out, b".");
-    put_name(out, pen, names, name);
-    put_value_item(out, pen, names, value);
-    pen.write(out, b"\n");
+    pen.write(b".");
+    put_name(pen, names, name);
+    put_value_item(pen, names, value);
+    pen.write(b"\n");
 }
 
 /// Prints the names of a class or an object, by bytes.
-fn put_own<K: Sink>(out: &mut K, pen: &mut Pen, names: &Script, order: &mut ByBytes, own: &Pairs)
+fn put_own<K: Sink>(pen: &mut Pen<'_, K>, names: &Script, order: &mut ByBytes, own: &Pairs)
     requires { AreKeys names.now.names order.old.keys }
-    ensures text { Prints (K.written out.old, K.faults out.old, pen.old) (K.written out.new, K.faults out.new, pen.new) (own_text names.now own.now) }
+    ensures text { Prints pen.old pen.new (own_text names.now own.now) }
     ensures keys { order.new.keys ≡ order.old.keys }
 {
     order.sort(own);
     for entry in order.entries() {
-        put_pair(out, pen, names, entry.1, &entry.2);
+        put_pair(pen, names, entry.1, &entry.2);
     }
 }
 
 /// Prints a class with its order and its names.
-fn put_class_end<K: Sink>(
-    out: &mut K,
-    pen: &mut Pen,
-    names: &Script,
-    order: &mut ByBytes,
-    end: &ClassEnd,
-)
+fn put_class_end<K: Sink>(pen: &mut Pen<'_, K>, names: &Script, order: &mut ByBytes, end: &ClassEnd)
     requires { AreKeys names.now.names order.old.keys }
-    ensures text { Prints (K.written out.old, K.faults out.old, pen.old) (K.written out.new, K.faults out.new, pen.new) (class_end_text names.now end.now) }
+    ensures text { Prints pen.old pen.new (class_end_text names.now end.now) }
     ensures keys { order.new.keys ≡ order.old.keys }
 {
-    pen.write(out, b"class ");
-    put_class(out, pen, names, end.class);
-    pen.write(out, b" =");
-    put_classes(out, pen, names, &end.order);
-    pen.write(out, b"\n");
-    put_own(out, pen, names, order, &end.own);
+    pen.write(b"class ");
+    put_class(pen, names, end.class);
+    pen.write(b" =");
+    put_classes(pen, names, &end.order);
+    pen.write(b"\n");
+    put_own(pen, names, order, &end.own);
 }
 
 /// Prints an object with its class and its names.
 fn put_object_end<K: Sink>(
-    out: &mut K,
-    pen: &mut Pen,
+    pen: &mut Pen<'_, K>,
     names: &Script,
     order: &mut ByBytes,
     number: usize,
     end: &ObjEnd,
 )
     requires { AreKeys names.now.names order.old.keys }
-    ensures text { Prints (K.written out.old, K.faults out.old, pen.old) (K.written out.new, K.faults out.new, pen.new) (object_end_text names.now number end.now) }
+    ensures text { Prints pen.old pen.new (object_end_text names.now number end.now) }
     ensures keys { order.new.keys ≡ order.old.keys }
 {
-    pen.write(out, b"object #");
-    pen.number(out, number as u64);
-    put_class_item(out, pen, names, end.class);
-    pen.write(out, b"\n");
-    put_own(out, pen, names, order, &end.own);
+    pen.write(b"object #");
+    pen.number(number as u64);
+    put_class_item(pen, names, end.class);
+    pen.write(b"\n");
+    put_own(pen, names, order, &end.own);
 }
 
 /// Prints the class at an index, with its order and its names.
 fn put_class_end_at<K: Sink>(
-    out: &mut K,
-    pen: &mut Pen,
+    pen: &mut Pen<'_, K>,
     names: &Script,
     order: &mut ByBytes,
     ends: &ClassEnds,
     i: usize,
 )
     requires { AreKeys names.now.names order.old.keys }
-    ensures text { Prints (K.written out.old, K.faults out.old, pen.old) (K.written out.new, K.faults out.new, pen.new) (item_text (class_end_text names.now) (slice_get ends.now i)) }
+    ensures text { Prints pen.old pen.new (item_text (class_end_text names.now) (slice_get ends.now i)) }
     ensures keys { order.new.keys ≡ order.old.keys }
 {
     if let Some(end) = ends.at(i) {
-        put_class_end(out, pen, names, order, end);
+        put_class_end(pen, names, order, end);
     }
 }
 
 /// Prints the classes that were made.
 fn put_class_ends<K: Sink>(
-    out: &mut K,
-    pen: &mut Pen,
+    pen: &mut Pen<'_, K>,
     names: &Script,
     order: &mut ByBytes,
     ends: &ClassEnds,
 )
     requires { AreKeys names.now.names order.old.keys }
-    ensures text { Prints (K.written out.old, K.faults out.old, pen.old) (K.written out.new, K.faults out.new, pen.new) (flat_map (class_end_text names.now) ends.now) }
+    ensures text { Prints pen.old pen.new (flat_map (class_end_text names.now) ends.now) }
     ensures keys { order.new.keys ≡ order.old.keys }
 {
     for i in 0..ends.len() {
-        put_class_end_at(out, pen, names, order, ends, i);
+        put_class_end_at(pen, names, order, ends, i);
     }
 }
 
 /// Prints the object with this number, with its class and its names.
 fn put_object_end_at<K: Sink>(
-    out: &mut K,
-    pen: &mut Pen,
+    pen: &mut Pen<'_, K>,
     names: &Script,
     order: &mut ByBytes,
     ends: &ObjEnds,
     number: usize,
 )
     requires { AreKeys names.now.names order.old.keys }
-    ensures text { Prints (K.written out.old, K.faults out.old, pen.old) (K.written out.new, K.faults out.new, pen.new) (item_text (object_end_text names.now number) (slice_get ends.now number)) }
+    ensures text { Prints pen.old pen.new (item_text (object_end_text names.now number) (slice_get ends.now number)) }
     ensures keys { order.new.keys ≡ order.old.keys }
 {
     if let Some(end) = ends.at(number) {
-        put_object_end(out, pen, names, order, number, end);
+        put_object_end(pen, names, order, number, end);
     }
 }
 
 /// Prints the objects.
 fn put_object_ends<K: Sink>(
-    out: &mut K,
-    pen: &mut Pen,
+    pen: &mut Pen<'_, K>,
     names: &Script,
     order: &mut ByBytes,
     ends: &ObjEnds,
 )
     requires { AreKeys names.now.names order.old.keys }
-    ensures text { Prints (K.written out.old, K.faults out.old, pen.old) (K.written out.new, K.faults out.new, pen.new) (object_ends_text names.now 0 ends.now) }
+    ensures text { Prints pen.old pen.new (object_ends_text names.now 0 ends.now) }
     ensures keys { order.new.keys ≡ order.old.keys }
 {
     for number in 0..ends.len() {
-        put_object_end_at(out, pen, names, order, ends, number);
+        put_object_end_at(pen, names, order, ends, number);
     }
 }
 
 /// Prints the final namespaces.
-pub fn put_final<K: Sink>(
-    out: &mut K,
-    pen: &mut Pen,
-    names: &Script,
-    order: &mut ByBytes,
-    last: &Final,
-)
+pub fn put_final<K: Sink>(pen: &mut Pen<'_, K>, names: &Script, order: &mut ByBytes, last: &Final)
     requires { AreKeys names.now.names order.old.keys }
-    ensures { Prints (K.written out.old, K.faults out.old, pen.old) (K.written out.new, K.faults out.new, pen.new) (final_text names.now last.now) }
+    ensures { Prints pen.old pen.new (final_text names.now last.now) }
 {
-    pen.write(out, b"final\n");
-    put_class_ends(out, pen, names, order, &last.classes);
-    put_object_ends(out, pen, names, order, &last.objects);
-    pen.write(out, b"end\n");
+    pen.write(b"final\n");
+    put_class_ends(pen, names, order, &last.classes);
+    put_object_ends(pen, names, order, &last.objects);
+    pen.write(b"end\n");
 }

@@ -1,4 +1,6 @@
 //! Printing operations.
+#![tactic(auto, using(crate::proofs::Printing::then_texts))]
+
 ghost use Rattle.std.specs.Prelude.{◌++◌, codes, decimal};
 ghost use Rattle.at_text.specs.Lines.{op_text, begin_text, line_op_text};
 ghost use Rattle.at_text.specs.Prints.{Prints};
@@ -16,179 +18,158 @@ use at_value::{Bases, Class, Name, Obj, Op, Value};
 
 /// Prints a word with a blank after it, a class and its bases.
 fn put_with_bases<K: Sink>(
-    out: &mut K,
-    pen: &mut Pen,
+    pen: &mut Pen<'_, K>,
     names: &Script,
     word: &[u8],
     class: Class,
     bases: &Bases,
 )
-    ensures { Prints (K.written out.old, K.faults out.old, pen.old) (K.written out.new, K.faults out.new, pen.new) (word.now ++ text_at names.now.classes class ++ classes_text names.now bases.now) }
+    ensures { Prints pen.old pen.new (word.now ++ text_at names.now.classes class ++ classes_text names.now bases.now) }
 {
-    pen.write(out, word);
-    put_class(out, pen, names, class);
-    put_bases(out, pen, names, bases);
+    pen.write(word);
+    put_class(pen, names, class);
+    put_bases(pen, names, bases);
 }
 
 /// Prints a word with a blank after it, and a class.
-fn put_word_and_class<K: Sink>(
-    out: &mut K,
-    pen: &mut Pen,
-    names: &Script,
-    word: &[u8],
-    class: Class,
-)
-    ensures { Prints (K.written out.old, K.faults out.old, pen.old) (K.written out.new, K.faults out.new, pen.new) (word.now ++ text_at names.now.classes class) }
+fn put_word_and_class<K: Sink>(pen: &mut Pen<'_, K>, names: &Script, word: &[u8], class: Class)
+    ensures { Prints pen.old pen.new (word.now ++ text_at names.now.classes class) }
 {
-    pen.write(out, word);
-    put_class(out, pen, names, class);
+    pen.write(word);
+    put_class(pen, names, class);
 }
 
 /// Prints a word with a blank after it, and an attribute of a class.
 fn put_of_class<K: Sink>(
-    out: &mut K,
-    pen: &mut Pen,
+    pen: &mut Pen<'_, K>,
     names: &Script,
     word: &[u8],
     class: Class,
     name: Name,
 )
-    ensures { Prints (K.written out.old, K.faults out.old, pen.old) (K.written out.new, K.faults out.new, pen.new) (word.now ++ class_attribute names.now class name) }
+    ensures { Prints pen.old pen.new (word.now ++ class_attribute names.now class name) }
 {
-    pen.write(out, word);
-    put_class_attribute(out, pen, names, class, name);
+    pen.write(word);
+    put_class_attribute(pen, names, class, name);
 }
 
 /// Prints a word with `#` after it, and an attribute of an object.
 fn put_of_object<K: Sink>(
-    out: &mut K,
-    pen: &mut Pen,
+    pen: &mut Pen<'_, K>,
     names: &Script,
     word: &[u8],
     object: Obj,
     name: Name,
 )
-    ensures { Prints (K.written out.old, K.faults out.old, pen.old) (K.written out.new, K.faults out.new, pen.new) (word.now ++ decimal object ++ codes "." ++ text_at names.now.names name) }
+    ensures { Prints pen.old pen.new (word.now ++ decimal object ++ codes "." ++ text_at names.now.names name) }
 {
-    pen.write(out, word);
-    pen.number(out, u64::from(object.number()));
-    pen.write(out, b".");
-    put_name(out, pen, names, name);
+    pen.write(word);
+    pen.number(u64::from(object.number()));
+    pen.write(b".");
+    put_name(pen, names, name);
 }
 
 /// Prints `put C.x V`.
 fn put_type_set<K: Sink>(
-    out: &mut K,
-    pen: &mut Pen,
+    pen: &mut Pen<'_, K>,
     names: &Script,
     class: Class,
     name: Name,
     value: &Value,
 )
-    ensures { Prints (K.written out.old, K.faults out.old, pen.old) (K.written out.new, K.faults out.new, pen.new) (codes "put " ++ class_attribute names.now class name ++ value_item names.now value.now) }
+    ensures { Prints pen.old pen.new
+        (codes "put " ++ class_attribute names.now class name ++ value_item names.now value.now) }
 {
-    put_of_class(out, pen, names, b"put ", class, name);
-    put_value_item(out, pen, names, value);
+    put_of_class(pen, names, b"put ", class, name);
+    put_value_item(pen, names, value);
 }
 
 /// Prints `set #N.x V`.
-fn put_set<K: Sink>(
-    out: &mut K,
-    pen: &mut Pen,
-    names: &Script,
-    object: Obj,
-    name: Name,
-    value: &Value,
-)
-    ensures { Prints (K.written out.old, K.faults out.old, pen.old) (K.written out.new, K.faults out.new, pen.new) (codes "set " ++ object_attribute names.now object name ++ value_item names.now value.now) }
+fn put_set<K: Sink>(pen: &mut Pen<'_, K>, names: &Script, object: Obj, name: Name, value: &Value)
+    ensures { Prints pen.old pen.new
+        (codes "set " ++ object_attribute names.now object name ++ value_item names.now value.now) }
 {
-    put_of_object(out, pen, names, b"set #", object, name);
-    put_value_item(out, pen, names, value);
+    put_of_object(pen, names, b"set #", object, name);
+    put_value_item(pen, names, value);
 }
 
 /// Prints `turn #N C`.
-fn put_set_class<K: Sink>(out: &mut K, pen: &mut Pen, names: &Script, object: Obj, class: Class)
-    ensures { Prints (K.written out.old, K.faults out.old, pen.old) (K.written out.new, K.faults out.new, pen.new) (codes "turn " ++ object_text object ++ class_item names.now class) }
+fn put_set_class<K: Sink>(pen: &mut Pen<'_, K>, names: &Script, object: Obj, class: Class)
+    ensures { Prints pen.old pen.new (codes "turn " ++ object_text object ++ class_item names.now class) }
 {
-    pen.write(out, b"turn ");
-    put_object(out, pen, object);
-    put_class_item(out, pen, names, class);
+    pen.write(b"turn ");
+    put_object(pen, object);
+    put_class_item(pen, names, class);
 }
 
 /// Prints a word with a blank after it, and two objects.
-fn put_two_objects<K: Sink>(out: &mut K, pen: &mut Pen, word: &[u8], first: Obj, second: Obj)
-    ensures { Prints (K.written out.old, K.faults out.old, pen.old) (K.written out.new, K.faults out.new, pen.new) (word.now ++ object_text first ++ codes " " ++ object_text second) }
+fn put_two_objects<K: Sink>(pen: &mut Pen<'_, K>, word: &[u8], first: Obj, second: Obj)
+    ensures { Prints pen.old pen.new (word.now ++ object_text first ++ codes " " ++ object_text second) }
 {
-    pen.write(out, word);
-    put_object(out, pen, first);
-    pen.write(out, b" ");
-    put_object(out, pen, second);
+    pen.write(word);
+    put_object(pen, first);
+    pen.write(b" ");
+    put_object(pen, second);
 }
 
 /// Prints a word with a blank after it, and an object.
-fn put_word_and_object<K: Sink>(out: &mut K, pen: &mut Pen, word: &[u8], object: Obj)
-    ensures { Prints (K.written out.old, K.faults out.old, pen.old) (K.written out.new, K.faults out.new, pen.new) (word.now ++ object_text object) }
+fn put_word_and_object<K: Sink>(pen: &mut Pen<'_, K>, word: &[u8], object: Obj)
+    ensures { Prints pen.old pen.new (word.now ++ object_text object) }
 {
-    pen.write(out, word);
-    put_object(out, pen, object);
+    pen.write(word);
+    put_object(pen, object);
 }
 
 /// Prints `super C #N.x`.
-fn put_super<K: Sink>(
-    out: &mut K,
-    pen: &mut Pen,
-    names: &Script,
-    class: Class,
-    object: Obj,
-    name: Name,
-)
-    ensures { Prints (K.written out.old, K.faults out.old, pen.old) (K.written out.new, K.faults out.new, pen.new) (codes "super " ++ text_at names.now.classes class ++ codes " " ++ object_attribute names.now object name) }
+fn put_super<K: Sink>(pen: &mut Pen<'_, K>, names: &Script, class: Class, object: Obj, name: Name)
+    ensures { Prints pen.old pen.new
+        (codes "super " ++ text_at names.now.classes class ++ codes " " ++ object_attribute names.now object name) }
 {
-    put_word_and_class(out, pen, names, b"super ", class);
-    pen.write(out, b" ");
-    put_object_attribute(out, pen, names, object, name);
+    put_word_and_class(pen, names, b"super ", class);
+    pen.write(b" ");
+    put_object_attribute(pen, names, object, name);
 }
 
 /// Prints an operation of the data model.
-pub fn put_op<K: Sink>(out: &mut K, pen: &mut Pen, names: &Script, op: &Op)
-    ensures { Prints (K.written out.old, K.faults out.old, pen.old) (K.written out.new, K.faults out.new, pen.new) (op_text names.now op.now) }
+pub fn put_op<K: Sink>(pen: &mut Pen<'_, K>, names: &Script, op: &Op)
+    ensures { Prints pen.old pen.new (op_text names.now op.now) }
 {
     match op {
-        Op::Get(object, name) => put_of_object(out, pen, names, b"get #", *object, *name),
-        Op::Set(object, name, value) => put_set(out, pen, names, *object, *name, value),
-        Op::TypeSet(class, name, value) => put_type_set(out, pen, names, *class, *name, value),
-        Op::TypeGet(class, name) => put_of_class(out, pen, names, b"cget ", *class, *name),
-        Op::Del(object, name) => put_of_object(out, pen, names, b"del #", *object, *name),
-        Op::New(class) => put_word_and_class(out, pen, names, b"new ", *class),
-        Op::NewClass(class, bases) => put_with_bases(out, pen, names, b"class ", *class, bases),
-        Op::SetBases(class, bases) => put_with_bases(out, pen, names, b"bases ", *class, bases),
-        Op::TypeDel(class, name) => put_of_class(out, pen, names, b"cut ", *class, *name),
-        Op::SetClass(object, class) => put_set_class(out, pen, names, *object, *class),
-        Op::Share(object, other) => put_two_objects(out, pen, b"share ", *object, *other),
-        Op::Super(class, object, name) => put_super(out, pen, names, *class, *object, *name),
-        Op::Special(object, name) => put_of_object(out, pen, names, b"special #", *object, *name),
-        Op::ClassOf(object) => put_word_and_object(out, pen, b"classof ", *object),
-        Op::Mro(class) => put_word_and_class(out, pen, names, b"mro ", *class),
+        Op::Get(object, name) => put_of_object(pen, names, b"get #", *object, *name),
+        Op::Set(object, name, value) => put_set(pen, names, *object, *name, value),
+        Op::TypeSet(class, name, value) => put_type_set(pen, names, *class, *name, value),
+        Op::TypeGet(class, name) => put_of_class(pen, names, b"cget ", *class, *name),
+        Op::Del(object, name) => put_of_object(pen, names, b"del #", *object, *name),
+        Op::New(class) => put_word_and_class(pen, names, b"new ", *class),
+        Op::NewClass(class, bases) => put_with_bases(pen, names, b"class ", *class, bases),
+        Op::SetBases(class, bases) => put_with_bases(pen, names, b"bases ", *class, bases),
+        Op::TypeDel(class, name) => put_of_class(pen, names, b"cut ", *class, *name),
+        Op::SetClass(object, class) => put_set_class(pen, names, *object, *class),
+        Op::Share(object, other) => put_two_objects(pen, b"share ", *object, *other),
+        Op::Super(class, object, name) => put_super(pen, names, *class, *object, *name),
+        Op::Special(object, name) => put_of_object(pen, names, b"special #", *object, *name),
+        Op::ClassOf(object) => put_word_and_object(pen, b"classof ", *object),
+        Op::Mro(class) => put_word_and_class(pen, names, b"mro ", *class),
     }
 }
 
 /// Prints the begin of a section.
-fn put_begin<K: Sink>(out: &mut K, pen: &mut Pen, first: Obj, second: Option<Obj>)
-    ensures { Prints (K.written out.old, K.faults out.old, pen.old) (K.written out.new, K.faults out.new, pen.new) (begin_text first second) }
+fn put_begin<K: Sink>(pen: &mut Pen<'_, K>, first: Obj, second: Option<Obj>)
+    ensures { Prints pen.old pen.new (begin_text first second) }
 {
     match second {
-        Some(second) => put_two_objects(out, pen, b"begin ", first, second),
-        None => put_word_and_object(out, pen, b"begin ", first),
+        Some(second) => put_two_objects(pen, b"begin ", first, second),
+        None => put_word_and_object(pen, b"begin ", first),
     }
 }
 
 /// Prints the operation of a line.
-pub fn put_line_op<K: Sink>(out: &mut K, pen: &mut Pen, names: &Script, op: &LineOp)
-    ensures { Prints (K.written out.old, K.faults out.old, pen.old) (K.written out.new, K.faults out.new, pen.new) (line_op_text names.now op.now) }
+pub fn put_line_op<K: Sink>(pen: &mut Pen<'_, K>, names: &Script, op: &LineOp)
+    ensures { Prints pen.old pen.new (line_op_text names.now op.now) }
 {
     match op {
-        LineOp::Of(op) => put_op(out, pen, names, op),
-        LineOp::Begin(first, second) => put_begin(out, pen, *first, *second),
-        LineOp::Finish => pen.write(out, b"finish"),
+        LineOp::Of(op) => put_op(pen, names, op),
+        LineOp::Begin(first, second) => put_begin(pen, *first, *second),
+        LineOp::Finish => pen.write(b"finish"),
     }
 }

@@ -147,7 +147,8 @@ fn sorted_names(alloc: Global, names: &Script) -> Result<Vec<Name>, AllocError>
 fn keys_in(alloc: Global, sorted: &[Name]) -> Result<Vec<u16>, AllocError>
     requires most { length sorted.now ≤ widths.names }
     requires below { All (λ n. n < length sorted.now) sorted.now }
-    ensures { IfOk result (λ keys. (length keys.items ≡ length sorted.now) × AreGiven (length sorted.now) sorted.now keys.items) }
+    ensures { IfOk result (λ keys.
+        (length keys.items ≡ length sorted.now) × AreGiven (length sorted.now) sorted.now keys.items) }
 {
     let mut keys = vec![in alloc; 0u16; sorted.len()]?;
     let mut key = Name::COUNT;

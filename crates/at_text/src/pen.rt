@@ -1,81 +1,94 @@
-//! A page before a sink, and the digits of numbers.
-ghost use Rattle.std.specs.Prelude.{◌≡◌, ◌≤◌, ◌⊎◌, ℕ, List, Option, true, IfOk, OnOk, OnErr};
-ghost use Rattle.std.specs.Io.KnownBytes.{append_known};
-ghost use Rattle.at_source.specs.Faults.{Rose};
-ghost use Rattle.at_source.specs.Whole.{GrewByPrefix};
+//! A pen: a sink with a page before it, and the digits of numbers.
+ghost use Rattle.std.specs.Prelude.{◌≡◌, [], ◌∷◌};
 ghost use Rattle.std.specs.Fmt.{decimal, signed_decimal};
-ghost use Rattle.at_source.specs.Page.{Printed, empty_page};
 ghost use Rattle.at_text.specs.Prints.{Prints};
 
-use at_source::{Failed, Page, Sink};
+use at_source::{Page, Sink};
 use itoa::Buffer;
-use std::alloc::{AllocError, Global};
 use std::marker::Model;
 
-/// A page before a sink, with room for the digits of a number. Clauses see what the page holds back, and whether a
-/// write of it failed.
+/// A sink with a page before it, and room for the digits of a number. Clauses see the sink, what was written, how often
+/// the sink failed, and what the page holds.
 #[derive(Drop)]
-pub struct Pen {
+pub struct Pen<'a, K: Sink> {
+    out: &'a mut K,
     page: Page,
     digits: Buffer,
 }
 
-impl Model for Pen {
-    ghost use Rattle.at_source.specs.Page.{Held};
+impl<'a, K: Sink> Model for Pen<'a, K> {
+    ghost use Rattle.at_text.specs.Prints.{PenState};
 
-    ghost Value = { Held };
+    ghost Value = { PenState };
 
-    ghost view = { λ p. p.page };
+    ghost view = { λ p. record { sink = p.out.ghost_name; written = K.written p.out.now; faults = K.faults p.out.now; page = p.page } };
 }
 
-impl Pen {
-    /// A pen before an empty page, whose memory is taken here.
-    pub fn new(alloc: Global) -> Result<Pen, AllocError>
-        ensures { IfOk result (λ p. p ≡ empty_page) }
+impl<'a, K: Sink> Pen<'a, K> {
+    /// A pen on this sink, with this page before it.
+    pub fn new(out: &'a mut K, page: Page) -> Pen<'a, K>
+        ensures sink { result.sink ≡ out.entry.ghost_name }
+        ensures written { result.written ≡ K.written out.entry.now }
+        ensures faults { result.faults ≡ K.faults out.entry.now }
+        ensures page { result.page ≡ page }
     {
-        Ok(Pen {
-            page: Page::new(alloc)?,
+        Pen {
+            out,
+            page,
             digits: Buffer::new(),
-        })
+        }
     }
 
     /// Prints the bytes.
     #[inline]
-    pub fn write<K: Sink>(&mut self, out: &mut K, bytes: &[u8])
-        ensures { Prints (K.written out.old, K.faults out.old, self.old) (K.written out.new, K.faults out.new, self.new) bytes.now }
+    pub fn write(&mut self, bytes: &[u8])
+        ensures { Prints self.old self.new bytes.now }
     {
-        self.page.write(out, bytes);
+        self.page.write(self.out, bytes);
+    }
+
+    /// Prints a byte.
+    #[inline]
+    fn write_byte(&mut self, byte: u8)
+        ensures { Prints self.old self.new (byte ∷ []) }
+    {
+        self.page.write_byte(self.out, byte);
     }
 
     /// Prints a number.
     #[inline]
-    pub fn number<K: Sink>(&mut self, out: &mut K, number: u64)
-        ensures { Prints (K.written out.old, K.faults out.old, self.old) (K.written out.new, K.faults out.new, self.new) (decimal number) }
+    pub fn number(&mut self, number: u64)
+        ensures { Prints self.old self.new (decimal number) }
     {
         if number < 10 {
-            self.page.write_byte(out, b'0' + number as u8);
+            self.write_byte(b'0' + number as u8);
         } else {
-            self.page.write(out, self.digits.format(number).as_bytes());
+            self.page
+                .write(self.out, self.digits.format(number).as_bytes());
         }
     }
 
     /// Prints a number that may be below zero.
     #[inline]
-    pub fn signed<K: Sink>(&mut self, out: &mut K, number: i32)
-        ensures { Prints (K.written out.old, K.faults out.old, self.old) (K.written out.new, K.faults out.new, self.new) (signed_decimal number) }
+    pub fn signed(&mut self, number: i32)
+        ensures { Prints self.old self.new (signed_decimal number) }
     {
-        self.page.write(out, self.digits.format(number).as_bytes());
+        self.page
+            .write(self.out, self.digits.format(number).as_bytes());
     }
 
-    /// Sends what the page holds back, and flushes the sink.
-    pub fn finish<K: Sink>(self, out: &mut K) -> Result<(), Failed>
-        // All the text that was put on the page since it was empty is written, or a prefix of it.
-        ensures text { OnOk result ((start : Option (List ℕ)) (text : List ℕ) → Printed start (K.written out.old) self text → K.written out.new ≡ append_known start text) }
-        ensures prefix { OnErr result ((start : Option (List ℕ)) (text : List ℕ) → Printed start (K.written out.old) self text → GrewByPrefix start (K.written out.new) text) }
-        ensures later { K.faults out.old ≤ K.faults out.new }
-        ensures cause { OnErr result ((self.failed ≡ true) ⊎ Rose (K.faults out.old) (K.faults out.new)) }
+    /// The sink and the page before it.
+    pub fn into_page(self) -> (&'a mut K, Page)
+        ensures sink { result.0.ghost_name ≡ self.entry.sink }
+        ensures written { K.written result.0.now ≡ self.entry.written }
+        ensures faults { K.faults result.0.now ≡ self.entry.faults }
+        ensures page { result.1 ≡ self.entry.page }
     {
-        let Pen { page, digits: _ } = self;
-        page.finish(out)
+        let Pen {
+            out,
+            page,
+            digits: _,
+        } = self;
+        (out, page)
     }
 }

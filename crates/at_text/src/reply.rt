@@ -1,4 +1,6 @@
 //! Printing replies.
+#![tactic(auto, using(crate::proofs::Printing::then_texts))]
+
 ghost use Rattle.std.specs.Prelude.{◌++◌, codes, decimal};
 ghost use Rattle.at_text.specs.Lines.{hook_word, made_text, reply_text, line_reply_text};
 ghost use Rattle.at_text.specs.Prints.{Prints};
@@ -12,121 +14,122 @@ use at_source::Sink;
 use at_value::{Class, ClassList, Func, HookKind, Obj, Reply, Value};
 
 /// Prints `made #N`, and `init V` after it where the object's class has an `__init__`.
-fn put_made<K: Sink>(out: &mut K, pen: &mut Pen, names: &Script, object: Obj, init: &Option<Value>)
-    ensures { Prints (K.written out.old, K.faults out.old, pen.old) (K.written out.new, K.faults out.new, pen.new) (made_text names.now object init.now) }
+fn put_made<K: Sink>(pen: &mut Pen<'_, K>, names: &Script, object: Obj, init: &Option<Value>)
+    ensures { Prints pen.old pen.new (made_text names.now object init.now) }
 {
-    pen.write(out, b"made ");
-    put_object(out, pen, object);
+    pen.write(b"made ");
+    put_object(pen, object);
     if let Some(init) = init {
-        pen.write(out, b" init ");
-        put_value(out, pen, names, init);
+        pen.write(b" init ");
+        put_value(pen, names, init);
     }
 }
 
 /// Prints `value V`.
-fn put_value_reply<K: Sink>(out: &mut K, pen: &mut Pen, names: &Script, value: &Value)
-    ensures { Prints (K.written out.old, K.faults out.old, pen.old) (K.written out.new, K.faults out.new, pen.new) (codes "value " ++ value_text names.now value.now) }
+fn put_value_reply<K: Sink>(pen: &mut Pen<'_, K>, names: &Script, value: &Value)
+    ensures { Prints pen.old pen.new (codes "value " ++ value_text names.now value.now) }
 {
-    pen.write(out, b"value ");
-    put_value(out, pen, names, value);
+    pen.write(b"value ");
+    put_value(pen, names, value);
 }
 
 /// Prints `method F V`.
-fn put_method<K: Sink>(out: &mut K, pen: &mut Pen, names: &Script, func: Func, first: &Value)
-    ensures { Prints (K.written out.old, K.faults out.old, pen.old) (K.written out.new, K.faults out.new, pen.new) (codes "method " ++ text_at names.now.funcs func ++ value_item names.now first.now) }
+fn put_method<K: Sink>(pen: &mut Pen<'_, K>, names: &Script, func: Func, first: &Value)
+    ensures { Prints pen.old pen.new
+        (codes "method " ++ text_at names.now.funcs func ++ value_item names.now first.now) }
 {
-    pen.write(out, b"method ");
-    put_func(out, pen, names, func);
-    put_value_item(out, pen, names, first);
+    pen.write(b"method ");
+    put_func(pen, names, func);
+    put_value_item(pen, names, first);
 }
 
 /// Prints the word for a kind of hook.
-fn put_hook_word<K: Sink>(out: &mut K, pen: &mut Pen, kind: HookKind)
-    ensures { Prints (K.written out.old, K.faults out.old, pen.old) (K.written out.new, K.faults out.new, pen.new) (hook_word kind) }
+fn put_hook_word<K: Sink>(pen: &mut Pen<'_, K>, kind: HookKind)
+    ensures { Prints pen.old pen.new (hook_word kind) }
 {
     match kind {
-        HookKind::Getter => pen.write(out, b"getter"),
-        HookKind::Setter => pen.write(out, b"setter"),
-        HookKind::Deleter => pen.write(out, b"deleter"),
-        HookKind::DescGet => pen.write(out, b"dget"),
-        HookKind::DescSet => pen.write(out, b"dset"),
-        HookKind::DescDel => pen.write(out, b"ddel"),
-        HookKind::GetAttr => pen.write(out, b"getattr"),
+        HookKind::Getter => pen.write(b"getter"),
+        HookKind::Setter => pen.write(b"setter"),
+        HookKind::Deleter => pen.write(b"deleter"),
+        HookKind::DescGet => pen.write(b"dget"),
+        HookKind::DescSet => pen.write(b"dset"),
+        HookKind::DescDel => pen.write(b"ddel"),
+        HookKind::GetAttr => pen.write(b"getattr"),
     }
 }
 
 /// Prints `hook` and its kind.
-fn put_hook<K: Sink>(out: &mut K, pen: &mut Pen, kind: HookKind)
-    ensures { Prints (K.written out.old, K.faults out.old, pen.old) (K.written out.new, K.faults out.new, pen.new) (codes "hook " ++ hook_word kind) }
+fn put_hook<K: Sink>(pen: &mut Pen<'_, K>, kind: HookKind)
+    ensures { Prints pen.old pen.new (codes "hook " ++ hook_word kind) }
 {
-    pen.write(out, b"hook ");
-    put_hook_word(out, pen, kind);
+    pen.write(b"hook ");
+    put_hook_word(pen, kind);
 }
 
 /// Prints `order C..`.
-fn put_order<K: Sink>(out: &mut K, pen: &mut Pen, names: &Script, order: &ClassList)
-    ensures { Prints (K.written out.old, K.faults out.old, pen.old) (K.written out.new, K.faults out.new, pen.new) (codes "order" ++ classes_text names.now order.now) }
+fn put_order<K: Sink>(pen: &mut Pen<'_, K>, names: &Script, order: &ClassList)
+    ensures { Prints pen.old pen.new (codes "order" ++ classes_text names.now order.now) }
 {
-    pen.write(out, b"order");
-    put_classes(out, pen, names, order);
+    pen.write(b"order");
+    put_classes(pen, names, order);
 }
 
 /// Prints `noorder C`.
-fn put_no_order<K: Sink>(out: &mut K, pen: &mut Pen, names: &Script, class: Class)
-    ensures { Prints (K.written out.old, K.faults out.old, pen.old) (K.written out.new, K.faults out.new, pen.new) (codes "noorder " ++ text_at names.now.classes class) }
+fn put_no_order<K: Sink>(pen: &mut Pen<'_, K>, names: &Script, class: Class)
+    ensures { Prints pen.old pen.new (codes "noorder " ++ text_at names.now.classes class) }
 {
-    pen.write(out, b"noorder ");
-    put_class(out, pen, names, class);
+    pen.write(b"noorder ");
+    put_class(pen, names, class);
 }
 
 /// Prints a reply of the data model.
-pub fn put_reply<K: Sink>(out: &mut K, pen: &mut Pen, names: &Script, reply: &Reply)
-    ensures { Prints (K.written out.old, K.faults out.old, pen.old) (K.written out.new, K.faults out.new, pen.new) (reply_text names.now reply.now) }
+pub fn put_reply<K: Sink>(pen: &mut Pen<'_, K>, names: &Script, reply: &Reply)
+    ensures { Prints pen.old pen.new (reply_text names.now reply.now) }
 {
     match reply {
-        Reply::Value(value) => put_value_reply(out, pen, names, value),
-        Reply::Done => pen.write(out, b"done"),
-        Reply::NoAttr => pen.write(out, b"noattr"),
-        Reply::Method(func, first) => put_method(out, pen, names, *func, first),
-        Reply::Made(object, init) => put_made(out, pen, names, *object, init),
+        Reply::Value(value) => put_value_reply(pen, names, value),
+        Reply::Done => pen.write(b"done"),
+        Reply::NoAttr => pen.write(b"noattr"),
+        Reply::Method(func, first) => put_method(pen, names, *func, first),
+        Reply::Made(object, init) => put_made(pen, names, *object, init),
         Reply::Hook(kind, callee, receiver, other, value) => {
-            put_hook(out, pen, *kind);
-            put_value_item(out, pen, names, callee);
-            put_value_item(out, pen, names, receiver);
-            put_value_item(out, pen, names, other);
-            put_value_item(out, pen, names, value);
+            put_hook(pen, *kind);
+            put_value_item(pen, names, callee);
+            put_value_item(pen, names, receiver);
+            put_value_item(pen, names, other);
+            put_value_item(pen, names, value);
         }
-        Reply::Order(order) => put_order(out, pen, names, order),
-        Reply::NoGetter => pen.write(out, b"nogetter"),
-        Reply::NoSetter => pen.write(out, b"nosetter"),
-        Reply::NoDeleter => pen.write(out, b"nodeleter"),
-        Reply::NoClass => pen.write(out, b"noclass"),
-        Reply::NameTaken => pen.write(out, b"nametaken"),
-        Reply::EmptyBases => pen.write(out, b"emptybases"),
-        Reply::Duplicate => pen.write(out, b"duplicate"),
-        Reply::Cycle => pen.write(out, b"cycle"),
-        Reply::NoOrder(class) => put_no_order(out, pen, names, *class),
-        Reply::Immutable => pen.write(out, b"immutable"),
-        Reply::NotSubclass => pen.write(out, b"notsubclass"),
-        Reply::Full => pen.write(out, b"full"),
+        Reply::Order(order) => put_order(pen, names, order),
+        Reply::NoGetter => pen.write(b"nogetter"),
+        Reply::NoSetter => pen.write(b"nosetter"),
+        Reply::NoDeleter => pen.write(b"nodeleter"),
+        Reply::NoClass => pen.write(b"noclass"),
+        Reply::NameTaken => pen.write(b"nametaken"),
+        Reply::EmptyBases => pen.write(b"emptybases"),
+        Reply::Duplicate => pen.write(b"duplicate"),
+        Reply::Cycle => pen.write(b"cycle"),
+        Reply::NoOrder(class) => put_no_order(pen, names, *class),
+        Reply::Immutable => pen.write(b"immutable"),
+        Reply::NotSubclass => pen.write(b"notsubclass"),
+        Reply::Full => pen.write(b"full"),
     }
 }
 
 /// Prints `suspended N`.
-fn put_suspended<K: Sink>(out: &mut K, pen: &mut Pen, times: u32)
-    ensures { Prints (K.written out.old, K.faults out.old, pen.old) (K.written out.new, K.faults out.new, pen.new) (codes "suspended " ++ decimal times) }
+fn put_suspended<K: Sink>(pen: &mut Pen<'_, K>, times: u32)
+    ensures { Prints pen.old pen.new (codes "suspended " ++ decimal times) }
 {
-    pen.write(out, b"suspended ");
-    pen.number(out, u64::from(times));
+    pen.write(b"suspended ");
+    pen.number(u64::from(times));
 }
 
 /// Prints the reply of a line.
-pub fn put_line_reply<K: Sink>(out: &mut K, pen: &mut Pen, names: &Script, reply: &LineReply)
-    ensures { Prints (K.written out.old, K.faults out.old, pen.old) (K.written out.new, K.faults out.new, pen.new) (line_reply_text names.now reply.now) }
+pub fn put_line_reply<K: Sink>(pen: &mut Pen<'_, K>, names: &Script, reply: &LineReply)
+    ensures { Prints pen.old pen.new (line_reply_text names.now reply.now) }
 {
     match reply {
-        LineReply::Of(reply) => put_reply(out, pen, names, reply),
-        LineReply::Kept => pen.write(out, b"kept"),
-        LineReply::Suspended(times) => put_suspended(out, pen, *times),
+        LineReply::Of(reply) => put_reply(pen, names, reply),
+        LineReply::Kept => pen.write(b"kept"),
+        LineReply::Suspended(times) => put_suspended(pen, *times),
     }
 }

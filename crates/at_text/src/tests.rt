@@ -26,7 +26,7 @@ fn print_run(
     Ok(print(alloc, script, &names, run, out))
 }
 
-/// What stands in a sink that takes at most so many bytes a write, once the run is printed.
+/// A sink that takes at most `most` bytes a write, once the run is printed.
 fn printed(
     rt: &(impl Abort + Alloc<A = Global>),
     script: &[u8],
@@ -205,7 +205,7 @@ fn the_first_path_is_printed_however_the_sink_takes_it(rt: HostRuntime) -> Resul
     Ok(())
 }
 
-/// A sink with so much room, whose call of this number fails.
+/// A sink with room for `room` bytes, whose call of the number `fails` fails.
 fn failing_sink(alloc: Global, room: usize, fails: u64) -> Result<MemSink, AllocError> {
     let mut calls = Vec::new(alloc);
     calls.push(fails)?;
@@ -222,7 +222,7 @@ fn faults(text: &str) -> [(usize, u64, usize); 4] {
     ]
 }
 
-/// The sink has taken the prefix of the text that is so long.
+/// The sink has taken the prefix of the text of this length.
 fn assert_prefix(rt: &impl Abort, out: &MemSink, length: usize, text: &str) {
     assert_eq!(rt; out.bytes().len(), length);
     assert!(rt; text.as_bytes().starts_with(out.bytes()));
@@ -244,7 +244,7 @@ fn a_sink_that_fails_has_a_prefix(rt: HostRuntime) -> Result<(), Fail> {
 const NAMES_SCRIPT: &[u8] =
     b"attrs 1\nmain\nclass C\nclass D C\nput C.zeta 1\nput C.b 1\nput C.B 1\nput C.ab 1\nput D.a 1\nnew v C\nend\n";
 
-/// What stands after the first `end` and the empty line after it.
+/// The text after the first `end` and the empty line after it.
 fn after_script(text: &[u8]) -> Option<&str> {
     let (_, after) = str::from_utf8(text).ok()?.split_once("end\n\n")?;
     Some(after)
@@ -301,4 +301,11 @@ fn own_names_stand_by_their_bytes(rt: HostRuntime) -> Result<(), Fail> {
     let mut run = run_of(alloc, Vec::new(alloc));
     run.last.objects = Sequence::of(named_objects(alloc)?);
     assert_prints(&rt, &run, NAMED)
+}
+
+#[test]
+fn faults_are_told_in_words(rt: HostRuntime) -> Result<(), Fail> {
+    let text = format!(in rt.alloc(); "{}, {}", PrintFault::NoMemory, PrintFault::WriteFault)?;
+    assert_eq!(rt; text.as_str(), "out of memory, the output failed");
+    Ok(())
 }

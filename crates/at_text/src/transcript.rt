@@ -1,5 +1,7 @@
 //! Printing a transcript.
-ghost use Rattle.std.specs.Prelude.{◌≡◌, ◌≤◌, Err, OnOk, slice_get};
+#![tactic(auto, using(crate::proofs::Printing::then_texts))]
+
+ghost use Rattle.std.specs.Prelude.{◌≡◌, ◌≤◌, Err, IsTrue, OnOk, slice_get};
 ghost use Rattle.std.specs.Io.KnownBytes.{append_known};
 ghost use Rattle.at_source.specs.Faults.{Rose};
 ghost use Rattle.at_source.specs.Whole.{GrewByPrefix};
@@ -13,15 +15,18 @@ use crate::order::ByBytes;
 use crate::pen::Pen;
 use at_line::{Lines, Ran};
 use at_script::Script;
-use at_source::{Failed, Sink};
+use at_source::{Failed, Page, Sink};
 use std::alloc::{AllocError, Global};
+use thiserror::Error;
 
 /// Why a transcript wasn't printed to its end.
-#[derive(Clone, Copy, Debug, PartialEq, Eq)]
+#[derive(Clone, Copy, Debug, PartialEq, Eq, Error)]
 pub enum PrintFault {
     /// There was no memory for printing. Nothing was written.
+    #[error("out of memory")]
     NoMemory,
     /// The sink failed.
+    #[error("the output failed")]
     WriteFault,
 }
 
@@ -48,41 +53,42 @@ impl From<Failed> for PrintFault {
 }
 
 /// Prints the header and the bytes of the script.
-fn put_script<K: Sink>(out: &mut K, pen: &mut Pen, script: &[u8])
-    ensures { Prints (K.written out.old, K.faults out.old, pen.old) (K.written out.new, K.faults out.new, pen.new) (script_text script.now) }
+fn put_script<K: Sink>(pen: &mut Pen<'_, K>, script: &[u8])
+    ensures { Prints pen.old pen.new (script_text script.now) }
 {
-    pen.write(out, b"attrs transcript 1\nscript ");
-    pen.number(out, script.len() as u64);
-    pen.write(out, b"\n");
-    pen.write(out, script);
-    pen.write(out, b"\n");
+    pen.write(b"attrs transcript 1\nscript ");
+    pen.number(script.len() as u64);
+    pen.write(b"\n");
+    pen.write(script);
+    pen.write(b"\n");
 }
 
 /// Prints the line at an index.
 #[inline]
-fn put_line_at<K: Sink>(out: &mut K, pen: &mut Pen, names: &Script, lines: &Lines, i: usize)
-    ensures { Prints (K.written out.old, K.faults out.old, pen.old) (K.written out.new, K.faults out.new, pen.new) (item_text (line_text names.now) (slice_get lines.now i)) }
+fn put_line_at<K: Sink>(pen: &mut Pen<'_, K>, names: &Script, lines: &Lines, i: usize)
+    ensures { Prints pen.old pen.new (item_text (line_text names.now) (slice_get lines.now i)) }
 {
     if let Some(line) = lines.at(i) {
-        put_line(out, pen, names, line);
+        put_line(pen, names, line);
     }
 }
 
 /// Prints the lines after their number.
-fn put_lines<K: Sink>(out: &mut K, pen: &mut Pen, names: &Script, lines: &Lines)
-    ensures { Prints (K.written out.old, K.faults out.old, pen.old) (K.written out.new, K.faults out.new, pen.new) (lines_text names.now lines.now) }
+fn put_lines<K: Sink>(pen: &mut Pen<'_, K>, names: &Script, lines: &Lines)
+    ensures { Prints pen.old pen.new (lines_text names.now lines.now) }
 {
-    pen.write(out, b"lines ");
-    pen.number(out, lines.len() as u64);
-    pen.write(out, b"\n");
+    pen.write(b"lines ");
+    pen.number(lines.len() as u64);
+    pen.write(b"\n");
     for i in 0..lines.len() {
-        put_line_at(out, pen, names, lines, i);
+        put_line_at(pen, names, lines, i);
     }
 }
 
 /// Prints the transcript of a run: the bytes of its script, its lines and its final namespaces.
 ///
-/// The names are those of the script; one that it doesn't have is printed as nothing. All memory is taken before the
+/// The names are those of the script; one that it doesn't have is printed as nothing. It prints every run; those that the
+/// text tells apart are those of `IsPrintable`. All memory is taken before the
 /// first write: for a page of 65,536 bytes, for the order of the names and for the names of one namespace.
 pub fn print<K: Sink>(
     alloc: Global,
@@ -92,21 +98,29 @@ pub fn print<K: Sink>(
     out: &mut K,
 ) -> Result<(), PrintFault>
     // The transcript was written, or only a prefix of it.
-    ensures text { OnOk result (K.written out.new ≡ append_known (K.written out.old) (text script.now names.now run.now.lines run.now.last)) }
-    ensures prefix { result ≡ Err PrintFault.WriteFault → GrewByPrefix (K.written out.old) (K.written out.new) (text script.now names.now run.now.lines run.now.last) }
+    ensures text { OnOk result
+        (K.written out.new ≡ append_known (K.written out.old) (text script.now names.now run.now.lines run.now.last)) }
+    ensures prefix { result ≡ Err PrintFault.WriteFault →
+        GrewByPrefix (K.written out.old) (K.written out.new) (text script.now names.now run.now.lines run.now.last) }
 
-    // The write fault comes only where the count of faults rose, and the count never falls.
-    ensures later { K.faults out.old ≤ K.faults out.new }
+    // All that was written is flushed.
+    ensures flushed { OnOk result (IsTrue (K.is_flushed out.new)) }
+
+    // The count of faults rises exactly where it answers the write fault, and never falls.
+    ensures no_fault { OnOk result (K.faults out.new ≡ K.faults out.old) }
     ensures cause { result ≡ Err PrintFault.WriteFault → Rose (K.faults out.old) (K.faults out.new) }
+    ensures later { K.faults out.old ≤ K.faults out.new }
 
-    // Where memory was wanting, nothing was written.
-    ensures no_memory { result ≡ Err PrintFault.NoMemory → (K.written out.new ≡ K.written out.old) × (K.faults out.new ≡ K.faults out.old) }
+    // Out of memory, the sink is unchanged.
+    ensures no_memory { result ≡ Err PrintFault.NoMemory → out.new ≡ out.old }
 {
-    let mut pen = Pen::new(alloc)?;
+    let page = Page::new(alloc)?;
     let mut order = ByBytes::new(alloc, names)?;
-    put_script(out, &mut pen, script);
-    put_lines(out, &mut pen, names, &run.lines);
-    put_final(out, &mut pen, names, &mut order, &run.last);
-    pen.finish(out)?;
+    let mut pen = Pen::new(out, page);
+    put_script(&mut pen, script);
+    put_lines(&mut pen, names, &run.lines);
+    put_final(&mut pen, names, &mut order, &run.last);
+    let (out, page) = pen.into_page();
+    page.finish(out)?;
     Ok(())
 }

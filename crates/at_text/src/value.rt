@@ -1,4 +1,6 @@
 //! Printing names and values.
+#![tactic(auto, using(crate::proofs::Printing::then_texts))]
+
 ghost use Rattle.std.specs.Prelude.{◌++◌, codes, slice_get};
 ghost use Rattle.at_text.specs.Prints.{Prints};
 ghost use Rattle.at_text.specs.Values.{text_at, object_text, object_attribute, class_attribute, class_item, class_item_at, classes_text, part_text, property_text, value_text, value_item};
@@ -10,178 +12,166 @@ use at_value::{Bases, Class, ClassList, Func, Name, Obj, Prop, Value};
 
 /// Prints an attribute name or a text.
 #[inline]
-pub fn put_name<K: Sink>(out: &mut K, pen: &mut Pen, names: &Script, name: Name)
-    ensures { Prints (K.written out.old, K.faults out.old, pen.old) (K.written out.new, K.faults out.new, pen.new) (text_at names.now.names name) }
+pub fn put_name<K: Sink>(pen: &mut Pen<'_, K>, names: &Script, name: Name)
+    ensures { Prints pen.old pen.new (text_at names.now.names name) }
 {
     if let Some(text) = names.name_text(name) {
-        pen.write(out, text.as_bytes());
+        pen.write(text.as_bytes());
     }
 }
 
 /// Prints a class.
 #[inline]
-pub fn put_class<K: Sink>(out: &mut K, pen: &mut Pen, names: &Script, class: Class)
-    ensures { Prints (K.written out.old, K.faults out.old, pen.old) (K.written out.new, K.faults out.new, pen.new) (text_at names.now.classes class) }
+pub fn put_class<K: Sink>(pen: &mut Pen<'_, K>, names: &Script, class: Class)
+    ensures { Prints pen.old pen.new (text_at names.now.classes class) }
 {
     if let Some(text) = names.class_text(class) {
-        pen.write(out, text.as_bytes());
+        pen.write(text.as_bytes());
     }
 }
 
 /// Prints a function.
-pub fn put_func<K: Sink>(out: &mut K, pen: &mut Pen, names: &Script, func: Func)
-    ensures { Prints (K.written out.old, K.faults out.old, pen.old) (K.written out.new, K.faults out.new, pen.new) (text_at names.now.funcs func) }
+pub fn put_func<K: Sink>(pen: &mut Pen<'_, K>, names: &Script, func: Func)
+    ensures { Prints pen.old pen.new (text_at names.now.funcs func) }
 {
     if let Some(text) = names.func_text(func) {
-        pen.write(out, text.as_bytes());
+        pen.write(text.as_bytes());
     }
 }
 
 /// Prints a variable.
-pub fn put_var<K: Sink>(out: &mut K, pen: &mut Pen, names: &Script, var: u16)
-    ensures { Prints (K.written out.old, K.faults out.old, pen.old) (K.written out.new, K.faults out.new, pen.new) (text_at names.now.vars var) }
+pub fn put_var<K: Sink>(pen: &mut Pen<'_, K>, names: &Script, var: u16)
+    ensures { Prints pen.old pen.new (text_at names.now.vars var) }
 {
     if let Some(text) = names.var_text(var) {
-        pen.write(out, text.as_bytes());
+        pen.write(text.as_bytes());
     }
 }
 
 /// Prints an object, as `#N`.
 #[inline]
-pub fn put_object<K: Sink>(out: &mut K, pen: &mut Pen, object: Obj)
-    ensures { Prints (K.written out.old, K.faults out.old, pen.old) (K.written out.new, K.faults out.new, pen.new) (object_text object) }
+pub fn put_object<K: Sink>(pen: &mut Pen<'_, K>, object: Obj)
+    ensures { Prints pen.old pen.new (object_text object) }
 {
-    pen.write(out, b"#");
-    pen.number(out, u64::from(object.number()));
+    pen.write(b"#");
+    pen.number(u64::from(object.number()));
 }
 
 /// Prints an attribute of an object, as `#N.x`.
 #[inline]
-pub fn put_object_attribute<K: Sink>(
-    out: &mut K,
-    pen: &mut Pen,
-    names: &Script,
-    object: Obj,
-    name: Name,
-)
-    ensures { Prints (K.written out.old, K.faults out.old, pen.old) (K.written out.new, K.faults out.new, pen.new) (object_attribute names.now object name) }
+pub fn put_object_attribute<K: Sink>(pen: &mut Pen<'_, K>, names: &Script, object: Obj, name: Name)
+    ensures { Prints pen.old pen.new (object_attribute names.now object name) }
 {
-    put_object(out, pen, object);
-    pen.write(out, b".");
-    put_name(out, pen, names, name);
+    put_object(pen, object);
+    pen.write(b".");
+    put_name(pen, names, name);
 }
 
 /// Prints an attribute of a class, as `C.x`.
 #[inline]
-pub fn put_class_attribute<K: Sink>(
-    out: &mut K,
-    pen: &mut Pen,
-    names: &Script,
-    class: Class,
-    name: Name,
-)
-    ensures { Prints (K.written out.old, K.faults out.old, pen.old) (K.written out.new, K.faults out.new, pen.new) (class_attribute names.now class name) }
+pub fn put_class_attribute<K: Sink>(pen: &mut Pen<'_, K>, names: &Script, class: Class, name: Name)
+    ensures { Prints pen.old pen.new (class_attribute names.now class name) }
 {
-    put_class(out, pen, names, class);
-    pen.write(out, b".");
-    put_name(out, pen, names, name);
+    put_class(pen, names, class);
+    pen.write(b".");
+    put_name(pen, names, name);
 }
 
 /// Prints a class, with a blank before it.
-pub fn put_class_item<K: Sink>(out: &mut K, pen: &mut Pen, names: &Script, class: Class)
-    ensures { Prints (K.written out.old, K.faults out.old, pen.old) (K.written out.new, K.faults out.new, pen.new) (class_item names.now class) }
+pub fn put_class_item<K: Sink>(pen: &mut Pen<'_, K>, names: &Script, class: Class)
+    ensures { Prints pen.old pen.new (class_item names.now class) }
 {
-    pen.write(out, b" ");
-    put_class(out, pen, names, class);
+    pen.write(b" ");
+    put_class(pen, names, class);
 }
 
 /// Prints classes, each with a blank before it.
-pub fn put_bases<K: Sink>(out: &mut K, pen: &mut Pen, names: &Script, bases: &Bases)
-    ensures { Prints (K.written out.old, K.faults out.old, pen.old) (K.written out.new, K.faults out.new, pen.new) (classes_text names.now bases.now) }
+pub fn put_bases<K: Sink>(pen: &mut Pen<'_, K>, names: &Script, bases: &Bases)
+    ensures { Prints pen.old pen.new (classes_text names.now bases.now) }
 {
     for base in bases.as_slice() {
-        put_class_item(out, pen, names, *base);
+        put_class_item(pen, names, *base);
     }
 }
 
 /// Prints the class at an index of a list, with a blank before it.
-fn put_class_at<K: Sink>(out: &mut K, pen: &mut Pen, names: &Script, classes: &ClassList, i: usize)
-    ensures { Prints (K.written out.old, K.faults out.old, pen.old) (K.written out.new, K.faults out.new, pen.new) (class_item_at names.now (slice_get classes.now i)) }
+fn put_class_at<K: Sink>(pen: &mut Pen<'_, K>, names: &Script, classes: &ClassList, i: usize)
+    ensures { Prints pen.old pen.new (class_item_at names.now (slice_get classes.now i)) }
 {
     if let Some(class) = classes.at(i) {
-        put_class_item(out, pen, names, class);
+        put_class_item(pen, names, class);
     }
 }
 
 /// Prints classes, each with a blank before it.
-pub fn put_classes<K: Sink>(out: &mut K, pen: &mut Pen, names: &Script, classes: &ClassList)
-    ensures { Prints (K.written out.old, K.faults out.old, pen.old) (K.written out.new, K.faults out.new, pen.new) (classes_text names.now classes.now) }
+pub fn put_classes<K: Sink>(pen: &mut Pen<'_, K>, names: &Script, classes: &ClassList)
+    ensures { Prints pen.old pen.new (classes_text names.now classes.now) }
 {
     for i in 0..classes.len() {
-        put_class_at(out, pen, names, classes, i);
+        put_class_at(pen, names, classes, i);
     }
 }
 
 /// Prints a part of a property: its function, or `-`.
-fn put_part<K: Sink>(out: &mut K, pen: &mut Pen, names: &Script, part: Option<Func>)
-    ensures { Prints (K.written out.old, K.faults out.old, pen.old) (K.written out.new, K.faults out.new, pen.new) (part_text names.now part) }
+fn put_part<K: Sink>(pen: &mut Pen<'_, K>, names: &Script, part: Option<Func>)
+    ensures { Prints pen.old pen.new (part_text names.now part) }
 {
     match part {
-        Some(func) => put_func(out, pen, names, func),
-        None => pen.write(out, b"-"),
+        Some(func) => put_func(pen, names, func),
+        None => pen.write(b"-"),
     }
 }
 
 /// Prints a property, as `prop:f,-,-`.
-fn put_property<K: Sink>(out: &mut K, pen: &mut Pen, names: &Script, property: Prop)
-    ensures { Prints (K.written out.old, K.faults out.old, pen.old) (K.written out.new, K.faults out.new, pen.new) (property_text names.now property) }
+fn put_property<K: Sink>(pen: &mut Pen<'_, K>, names: &Script, property: Prop)
+    ensures { Prints pen.old pen.new (property_text names.now property) }
 {
-    pen.write(out, b"prop:");
-    put_part(out, pen, names, property.get());
-    pen.write(out, b",");
-    put_part(out, pen, names, property.set());
-    pen.write(out, b",");
-    put_part(out, pen, names, property.del());
+    pen.write(b"prop:");
+    put_part(pen, names, property.get());
+    pen.write(b",");
+    put_part(pen, names, property.set());
+    pen.write(b",");
+    put_part(pen, names, property.del());
 }
 
 /// Prints a text, in double quotes.
-fn put_quoted<K: Sink>(out: &mut K, pen: &mut Pen, names: &Script, text: Name)
-    ensures { Prints (K.written out.old, K.faults out.old, pen.old) (K.written out.new, K.faults out.new, pen.new) (codes "\"" ++ text_at names.now.names text ++ codes "\"") }
+fn put_quoted<K: Sink>(pen: &mut Pen<'_, K>, names: &Script, text: Name)
+    ensures { Prints pen.old pen.new (codes "\"" ++ text_at names.now.names text ++ codes "\"") }
 {
-    pen.write(out, b"\"");
-    put_name(out, pen, names, text);
-    pen.write(out, b"\"");
+    pen.write(b"\"");
+    put_name(pen, names, text);
+    pen.write(b"\"");
 }
 
 /// Prints a word and a function after it.
-fn put_word_and_func<K: Sink>(out: &mut K, pen: &mut Pen, names: &Script, word: &[u8], func: Func)
-    ensures { Prints (K.written out.old, K.faults out.old, pen.old) (K.written out.new, K.faults out.new, pen.new) (word.now ++ text_at names.now.funcs func) }
+fn put_word_and_func<K: Sink>(pen: &mut Pen<'_, K>, names: &Script, word: &[u8], func: Func)
+    ensures { Prints pen.old pen.new (word.now ++ text_at names.now.funcs func) }
 {
-    pen.write(out, word);
-    put_func(out, pen, names, func);
+    pen.write(word);
+    put_func(pen, names, func);
 }
 
 /// Prints a value.
-pub fn put_value<K: Sink>(out: &mut K, pen: &mut Pen, names: &Script, value: &Value)
-    ensures { Prints (K.written out.old, K.faults out.old, pen.old) (K.written out.new, K.faults out.new, pen.new) (value_text names.now value.now) }
+pub fn put_value<K: Sink>(pen: &mut Pen<'_, K>, names: &Script, value: &Value)
+    ensures { Prints pen.old pen.new (value_text names.now value.now) }
 {
     match value {
-        Value::Int(number) => pen.signed(out, *number),
-        Value::Nothing => pen.write(out, b"none"),
-        Value::Obj(object) => put_object(out, pen, *object),
-        Value::Text(text) => put_quoted(out, pen, names, *text),
-        Value::Func(func) => put_func(out, pen, names, *func),
-        Value::Class(class) => put_class(out, pen, names, *class),
-        Value::Prop(property) => put_property(out, pen, names, *property),
-        Value::Static(func) => put_word_and_func(out, pen, names, b"static:", *func),
-        Value::ClassM(func) => put_word_and_func(out, pen, names, b"classm:", *func),
+        Value::Int(number) => pen.signed(*number),
+        Value::Nothing => pen.write(b"none"),
+        Value::Obj(object) => put_object(pen, *object),
+        Value::Text(text) => put_quoted(pen, names, *text),
+        Value::Func(func) => put_func(pen, names, *func),
+        Value::Class(class) => put_class(pen, names, *class),
+        Value::Prop(property) => put_property(pen, names, *property),
+        Value::Static(func) => put_word_and_func(pen, names, b"static:", *func),
+        Value::ClassM(func) => put_word_and_func(pen, names, b"classm:", *func),
     }
 }
 
 /// Prints a value, with a blank before it.
-pub fn put_value_item<K: Sink>(out: &mut K, pen: &mut Pen, names: &Script, value: &Value)
-    ensures { Prints (K.written out.old, K.faults out.old, pen.old) (K.written out.new, K.faults out.new, pen.new) (value_item names.now value.now) }
+pub fn put_value_item<K: Sink>(pen: &mut Pen<'_, K>, names: &Script, value: &Value)
+    ensures { Prints pen.old pen.new (value_item names.now value.now) }
 {
-    pen.write(out, b" ");
-    put_value(out, pen, names, value);
+    pen.write(b" ");
+    put_value(pen, names, value);
 }

@@ -7,9 +7,6 @@ use Rattle.at_text.proofs.last.put_class_ends.Given as goal
 -- the classes that were printed so far
 abbrev pub invariant-loop-i : goal.invariant-loop-i
 invariant-loop-i g l = record {
-  text : Prints
-      (g.K.Sink.written l.initial.out, g.K.Sink.faults l.initial.out, l.initial.pen)
-      (g.K.Sink.written l.out, g.K.Sink.faults l.out, l.pen)
-      (flat_map (class_end_text l.names) (take l.i l.ends));
+  text : Prints l.initial.pen l.pen (flat_map (class_end_text l.names) (take l.i l.ends));
   keys : l.order.keys ≡ l.initial.order.keys;
 }

@@ -6,9 +6,6 @@ use Rattle.at_text.proofs.last.put_object_ends.Given as goal
 -- the objects that were printed so far
 abbrev pub invariant-loop-number : goal.invariant-loop-number
 invariant-loop-number g l = record {
-  text : Prints
-      (g.K.Sink.written l.initial.out, g.K.Sink.faults l.initial.out, l.initial.pen)
-      (g.K.Sink.written l.out, g.K.Sink.faults l.out, l.pen)
-      (object_ends_text l.names 0 (take l.number l.ends));
+  text : Prints l.initial.pen l.pen (object_ends_text l.names 0 (take l.number l.ends));
   keys : l.order.keys ≡ l.initial.order.keys;
 }

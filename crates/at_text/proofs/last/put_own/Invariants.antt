@@ -8,7 +8,4 @@ use Rattle.at_text.proofs.last.put_own.Given as goal
 -- the pairs that were printed so far
 abbrev pub invariant-loop-entry : goal.invariant-loop-entry
 invariant-loop-entry g l =
-    Prints
-    (g.K.Sink.written l.initial.out, g.K.Sink.faults l.initial.out, l.initial.pen)
-    (g.K.Sink.written l.out, g.K.Sink.faults l.out, l.pen)
-    (flat_map (λ entry. pair_text l.names (pair_of entry)) (take l.entry-index l.entry-items))
+    Prints l.initial.pen l.pen (flat_map (λ entry. pair_text l.names (pair_of entry)) (take l.entry-index l.entry-items))

@@ -6,7 +6,4 @@ use Rattle.at_text.proofs.transcript.put_lines.Given as goal
 
 abbrev pub invariant-loop-i : goal.invariant-loop-i
 invariant-loop-i g l =
-    Prints
-    (g.K.Sink.written l.initial.out, g.K.Sink.faults l.initial.out, l.initial.pen)
-    (g.K.Sink.written l.out, g.K.Sink.faults l.out, l.pen)
-    (flat_map (line_text l.names) (take l.i l.lines))
+    Prints l.initial.pen l.pen (flat_map (line_text l.names) (take l.i l.lines))

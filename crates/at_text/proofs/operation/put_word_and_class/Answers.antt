@@ -1,5 +1,0 @@
-use Rattle.at_text.proofs.Printing.{then_prints}
-use Rattle.at_text.proofs.operation.put_word_and_class.Goals as goal
-
-pub returns : goal.returns
-returns g c = then_prints c.write.ensures c.put_class.ensures

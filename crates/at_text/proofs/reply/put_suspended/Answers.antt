@@ -1,5 +1,0 @@
-use Rattle.at_text.proofs.Printing.{then_prints, prints_number}
-use Rattle.at_text.proofs.reply.put_suspended.Goals as goal
-
-pub returns : goal.returns
-returns g c = then_prints c.write.ensures (prints_number c.from.result c.args.times (cc) c.number.ensures)
