@@ -1,5 +1,5 @@
 -- Texts that are printed one after another.
-use Rattle.std.proofs.Common.{◌≡◌, ◌∙◌, Bool, false, ap, sym, refl, ℕ, zero, suc, append_assoc, ◌+◌, ◌≤◌, List, [], ◌∷◌, ◌++◌, take, length, get_or, ◌<◌, arith, true, Option, Some, None, subst, ◌⊎◌, inl, inr, unwrap_or, slice_get, append-nil, decimal}
+use Rattle.std.proofs.Common.{◌≡◌, ◌∙◌, Bool, false, ap, sym, refl, ℕ, zero, suc, append_assoc, ◌+◌, ◌≤◌, List, [], ◌∷◌, ◌++◌, take, length, get_or, ◌<◌, arith, true, Option, subst, ◌⊎◌, inl, inr, slice_get, append-nil, decimal}
 use Rattle.std.proofs.lemmas.List.{flat_map_more, take_more, take_all}
 use Rattle.std.specs.List.{flat_map}
 use Rattle.at_source.specs.Faults.{Rose}
@@ -10,7 +10,6 @@ use Rattle.at_text.specs.Prints.{PenState, Prints, item_text}
 use Rattle.at_model.specs.declared.last.ObjEnd.{ObjEnd}
 use Rattle.at_script.specs.Parts.{ScriptParts}
 use Rattle.at_text.specs.Last.{object_end_text, object_ends_text}
-use Rattle.at_text.specs.Values.{text_at}
 
 -- a rise of the count is one from below it, and to above it
 risen_cause : (a b c : PenState) → a.faults ≤ b.faults → b.faults ≤ c.faults → (b.page.failed ≡ true → (a.page.failed ≡ true) ⊎ Rose a.faults b.faults) → (b.page.failed ≡ true) ⊎ Rose b.faults c.faults
@@ -55,20 +54,9 @@ prints_nothing a = record {
   later = omega arith;
 }
 
--- a text, and then nothing, is the text
-pub then_prints_nothing : {a b c : PenState} {xs : List ℕ} → Prints a b xs → Prints b c [] → Prints a c xs
-then_prints_nothing {a} {b} {c} {xs} first second = subst (Prints a c) (append-nil xs) (then_prints first second)
-
 -- the same text in other words
 pub prints_same : {a b : PenState} {xs ys : List ℕ} → xs ≡ ys → Prints a b xs → Prints a b ys
 prints_same {a} {b} same prints = subst (Prints a b) same prints
-
--- a text that the list has, or hasn't, at this number
-pub text_at-some : (texts : List (List ℕ)) (n : ℕ) (text : List ℕ) → Some text ≡ slice_get texts n → text ≡ text_at texts n
-text_at-some texts n text there = ap (λ o. unwrap_or o []) there
-
-pub text_at-none : (texts : List (List ℕ)) (n : ℕ) → None ≡ slice_get texts n → [] ≡ text_at texts n
-text_at-none texts n none = ap (λ (o : Option (List ℕ)). unwrap_or o []) none
 
 -- the same number
 pub prints_number : {a b : PenState} (m n : ℕ) → m ≡ n → Prints a b (decimal m) → Prints a b (decimal n)
@@ -126,9 +114,6 @@ pub then_object : {a b c : PenState} (s : ScriptParts) (ends : List ObjEnd) (i :
 then_object s ends i before next =
     let number : i ≡ 0 + i = omega arith in
     prints_same (object_ends_more s 0 ends i) (then_prints before (prints_same (ap (λ n. item_text (object_end_text s n) (slice_get ends i)) number) next))
-
-pub all_objects : {a b : PenState} (s : ScriptParts) (ends : List ObjEnd) (i : ℕ) → length ends ≤ i → Prints a b (object_ends_text s 0 (take i ends)) → Prints a b (object_ends_text s 0 ends)
-all_objects s ends i over prints = prints_same (ap (object_ends_text s 0) (take_all i ends over)) prints
 
 -- what a pen printed that began with an empty page
 pub printed_on_empty : {a b : PenState} {text : List ℕ} (start written : Option (List ℕ)) (first page : Held) → a.written ≡ start → a.page ≡ first → first ≡ empty_page → written ≡ b.written → page ≡ b.page → Prints a b text → Printed start written page text
