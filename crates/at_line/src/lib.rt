@@ -7,4 +7,4 @@ mod line;
 #[cfg(test)]
 mod tests;
 
-pub use line::{Line, LineOp, LineReply, Lines, Local, Ran, What};
+pub use line::{FINALLY_THREAD, Line, LineOp, LineReply, Lines, Local, MAIN_THREAD, Ran, What};

@@ -48,6 +48,12 @@ pub enum What {
     Local(Local),
 }
 
+/// The thread of the lines of `main`.
+pub const MAIN_THREAD: u8 = 0;
+
+/// The thread of the lines of `finally`: the threads of a script are numbered from 1, and are at most 32.
+pub const FINALLY_THREAD: u8 = 33;
+
 /// A line of a run. Thread 0 is `main`, 1 to 32 are the threads, and 33 is `finally`; the lines of each are numbered
 /// from 1.
 #[derive(Drop, Debug)]

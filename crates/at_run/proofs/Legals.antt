@@ -20,6 +20,7 @@ use Rattle.at_line.specs.Serial.{NamesNoLimit, AreInOrder, AreByThread}
 use Rattle.at_line.proofs.Serials.{serial_is_linearized}
 use Rattle.at_line.proofs.OneThread.{one_thread_serial}
 use Rattle.at_line.proofs.SerialSections.{serial_kept}
+use Rattle.at_script.specs.Limits as limits
 use Rattle.at_script.specs.Parts.{ScriptParts}
 use Rattle.at_thread.specs.Runs.{numbered, unbound}
 use Rattle.at_thread.proofs.Alone.{alone_lines, numbered_length}
@@ -92,8 +93,8 @@ of_main : (from : ℕ) (says : List what.What) → All (λ (line : Line). line.t
 of_main from [] = All-nil (λ (line : Line). line.thread ≡ main_thread)
 of_main from (w ∷ says) = All-cons (λ (line : Line). line.thread ≡ main_thread) (record { what = w; number = from; thread = main_thread }) (numbered main_thread (suc from) says) refl (of_main (suc from) says)
 
--- the limits of the program are out of the reach of one block, which has at most 200,001 lines
-undisturbed : (thread writes_made count : ℕ) (w : what.What) → thread ≡ main_thread → IsKeptAlone thread w → IsLimitMet program_limits writes_made count w → writes_made ≤ count → count ≤ 200001 → IsUndisturbed w
+-- the limits of the program are out of the reach of one block
+undisturbed : (thread writes_made count : ℕ) (w : what.What) → thread ≡ main_thread → IsKeptAlone thread w → IsLimitMet program_limits writes_made count w → writes_made ≤ count → count ≤ 2 * limits.most_budget + 1 → IsUndisturbed w
 undisturbed thread writes_made count (whats.Did place path (line_ops.Of o) r) main alone met few short = tt
 undisturbed thread writes_made count (whats.Did place path (line_ops.Begin a b) r) main alone met few short = tt
 undisturbed thread writes_made count (whats.Did place path line_ops.Finish r) main alone met few short = alone (inl main)

@@ -5,11 +5,12 @@ ghost use Rattle.at_thread.specs.Threads.{state_of};
 ghost use Rattle.at_thread.specs.Execution as execution;
 ghost use Rattle.at_thread.specs.Executions.{Answers};
 ghost use Rattle.at_thread.specs.Runs.{numbered};
+ghost use Rattle.at_script.specs.Limits as limits;
 ghost use Rattle.at_run.specs.Opening.{opening_of};
 ghost use Rattle.at_run.specs.PlainRun.{IsPlainRun};
 ghost use Rattle.at_run.specs.Turns.{IsPlain, Tells, Moves, TellsIn, Leading};
 
-use at_line::{Line, LineOp, LineReply, Ran, What};
+use at_line::{Line, LineOp, LineReply, MAIN_THREAD, Ran, What};
 use at_script::{Block, Script, Stmt};
 use at_thread::{Next, ReplyUse, Thread};
 use at_value::{Path, Reply, Sequence, Value};
@@ -25,9 +26,6 @@ enum Turn {
     /// A line.
     Says(What),
 }
-
-/// The thread number of `main`.
-const MAIN: u8 = 0;
 
 /// Runs the block `main` of a script from the opening world on, each path `Locked`. The script has no other blocks to run.
 pub fn run_main(alloc: Global, script: &Script) -> Result<Ran, AllocError>
@@ -60,7 +58,7 @@ fn run_block(alloc: Global, plain: &mut Plain, script: &Script) -> Result<Vec<Li
                 lines.push_reserved(Line {
                     what,
                     number,
-                    thread: MAIN,
+                    thread: MAIN_THREAD,
                 });
             }
         }
@@ -87,7 +85,7 @@ fn unbound(alloc: Global, count: usize) -> Result<Vec<Option<Value>>, AllocError
 /// How many lines a thread has at most: two a statement, and one more.
 fn most_lines(script: &Script) -> usize
     ensures same { result ≡ 2 * script.now.budget + 1 }
-    ensures most { result ≤ 200001 }
+    ensures most { result ≤ 2 * limits.most_budget + 1 }
 {
     2 * script.budget() as usize + 1
 }

@@ -11,6 +11,7 @@ use Rattle.at_value.specs.declared.reply.Path as paths
 use Rattle.at_value.specs.declared.reply.Path.TheVariants as path
 use Rattle.at_value.specs.declared.reply.Miss as misses
 use Rattle.at_value.specs.declared.reply.Miss.TheVariants as miss
+use Rattle.at_line.specs.Lines.{main_thread, finally_thread}
 use Rattle.at_line.specs.declared.line.Line.{Line}
 use Rattle.at_line.specs.declared.line.LineOp as line_ops
 use Rattle.at_line.specs.declared.line.LineOp.TheVariants as line_op
@@ -128,7 +129,7 @@ local_text s (local.Full n) = codes "full " ++ decimal n
 
 -- a thread: `m` is `main`, `f` is `finally`
 abbrev pub thread_text : ℕ → List ℕ
-thread_text t = if t == 0 then codes "m" else if t == 33 then codes "f" else codes "t" ++ decimal t
+thread_text t = if t == main_thread then codes "m" else if t == finally_thread then codes "f" else codes "t" ++ decimal t
 
 -- place, path, operation and reply, or a local word
 abbrev pub what_text : ScriptParts → whats.What → List ℕ

@@ -11,7 +11,7 @@ use crate::operation::put_line_op;
 use crate::pen::Pen;
 use crate::reply::put_line_reply;
 use crate::value::put_var;
-use at_line::{Line, LineOp, LineReply, Local, What};
+use at_line::{FINALLY_THREAD, Line, LineOp, LineReply, Local, MAIN_THREAD, What};
 use at_script::Script;
 use at_source::Sink;
 use at_value::{Miss, Path, Place};
@@ -88,9 +88,9 @@ fn put_thread_number<K: Sink>(pen: &mut Pen<'_, K>, thread: u8)
 fn put_thread<K: Sink>(pen: &mut Pen<'_, K>, thread: u8)
     ensures { Prints pen.old pen.new (thread_text thread ++ codes " ") }
 {
-    if thread == 0 {
+    if thread == MAIN_THREAD {
         pen.write(b"m ");
-    } else if thread == 33 {
+    } else if thread == FINALLY_THREAD {
         pen.write(b"f ");
     } else {
         put_thread_number(pen, thread);

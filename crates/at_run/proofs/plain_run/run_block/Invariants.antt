@@ -1,5 +1,6 @@
 use Rattle.std.proofs.Common.{◌≡◌, ◌+◌, ◌*◌, ◌≤◌, List, length, replicate, None, vec_capacity}
 use Rattle.at_line.specs.declared.line.What as what
+use Rattle.at_script.specs.Limits as limits
 use Rattle.at_thread.specs.Execution.{start}
 use Rattle.at_thread.specs.Runs.{numbered}
 use Rattle.at_thread.specs.Threads.{state_of}
@@ -12,7 +13,7 @@ abbrev pub invariant-loop-lines : goal.invariant-loop-lines
 invariant-loop-lines l = record {
   made : (says : List what.What) × (l.lines.items ≡ numbered 0 1 says) × Leading l.script (start l.script.main (replicate (length l.script.vars) None)) says (state_of l.thread) l.plain × Few l.script (length says) (state_of l.thread);
   room : 2 * l.script.budget + 1 ≤ vec_capacity l.lines;
-  most : l.script.budget ≤ 100000;
+  most : l.script.budget ≤ limits.most_budget;
 }
 
 abbrev pub decreases-loop-lines : goal.decreases-loop-lines
