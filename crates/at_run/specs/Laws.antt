@@ -11,7 +11,7 @@ use Rattle.at_script.specs.Limits as limits
 use Rattle.at_script.specs.Parts.{ScriptParts}
 use Rattle.at_run.specs.Opening.{opening_of, limits_of}
 use Rattle.at_run.specs.LegalRun.{IsLegalRun}
-use Rattle.at_run.specs.PlainRun.{IsSerialRun, IsPlainRun}
+use Rattle.at_run.specs.PlainRun.{line_under_locks, IsSerialRun, IsPlainRun}
 
 -- The operations of a serial run are what reads and writes of one view say, from the first state to one with the run's
 -- history. So what is true of every list of events is true of them.
@@ -20,6 +20,12 @@ SerialRunsAreEvents =
     (s : ScriptParts) (lines : List Line) (ends : final.Final) (run : IsSerialRun s lines ends)
     → (events : List Event) × (last : EventState) × IsEventRun (opening_of s) first_state events (operations_in (map what_of lines)) last
     × All (IsDoneBy main_thread) events × (last.history ≡ run.history)
+
+-- two serial runs of a script are the same, paths aside
+abbrev pub SerialRunsAreOne : Type 0
+SerialRunsAreOne =
+    (s : ScriptParts) (first second : List Line) (first_ends second_ends : final.Final) → IsSerialRun s first first_ends → IsSerialRun s second second_ends
+    → (map line_under_locks first ≡ map line_under_locks second) × (first_ends ≡ second_ends)
 
 -- two plain runs of a script are the same: the script determines the transcript
 abbrev pub PlainRunsAreOne : Type 0

@@ -1,6 +1,7 @@
 -- Runs in which one line is done after another, and the run of a script on the plain data model.
 use Rattle.std.specs.Prelude.{◌≡◌, List, [], map, All}
 use Rattle.at_value.specs.declared.operation.Op as op
+use Rattle.at_value.specs.declared.reply.Path.TheVariants as paths
 use Rattle.at_model.specs.declared.last.Final as final
 use Rattle.at_line.specs.declared.line.Line.{Line}
 use Rattle.at_line.specs.declared.line.LineOp.TheVariants as line_ops
@@ -38,6 +39,14 @@ pub record IsSerialRun (s : ScriptParts) (lines : List Line) (last : final.Final
   pub serial : IsSerial (opening_of s) [] (map what_of lines) history
   pub undisturbed : All (λ (line : Line). IsUndisturbed line.what) lines
   pub ends : last ≡ final_of (replay (opening_of s) history)
+
+-- a line as it would be under locks
+abbrev pub under_locks : what.What → what.What
+under_locks (whats.Did place path operation reply) = whats.Did place paths.Locked operation reply
+under_locks (whats.Local local) = whats.Local local
+
+abbrev pub line_under_locks : Line → Line
+line_under_locks line = record line { what = under_locks line.what }
 
 -- Such a run under locks, as the plain data model has it.
 pub record IsPlainRun (s : ScriptParts) (lines : List Line) (last : final.Final) : Type 0 where

@@ -1,5 +1,5 @@
 //! Laws of runs: what holds of every one. Each does nothing: its contract is the law.
-ghost use Rattle.at_run.specs.Laws.{SerialRunsAreEvents, SerialRunsAreLinearized, PlainRunsAreOne, LegalRunsOfOneBlockAreSerial};
+ghost use Rattle.at_run.specs.Laws.{SerialRunsAreEvents, SerialRunsAreLinearized, SerialRunsAreOne, PlainRunsAreOne, LegalRunsOfOneBlockAreSerial};
 
 /// A run in which one line is done after another is one list of reads and writes of one view, with the begins and ends of
 /// sections and the local lines between them.
@@ -12,9 +12,11 @@ pub fn serial_runs_are_linearized()
     ensures { SerialRunsAreLinearized }
 {}
 
-/// A script has at most one run on the plain data model, so its transcript is a function of the script.
+/// A script has at most one run on the plain data model, so its transcript is a function of the script; and at most one in
+/// which one line is done after another, paths aside.
 pub fn plain_runs_are_one()
-    ensures { PlainRunsAreOne }
+    ensures plain { PlainRunsAreOne }
+    ensures serial { SerialRunsAreOne }
 {}
 
 /// A legal run of a script of one block is its run on the plain data model, whatever its paths.
