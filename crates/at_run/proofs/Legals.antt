@@ -1,5 +1,5 @@
 -- Serial runs are linearized, plain runs are legal, and legal runs of one block are serial.
-use Rattle.std.proofs.Common.{◌≡◌, ◌∙◌, refl, sym, ap, subst, ℕ, suc, ◌+◌, ◌≤◌, arith, inl, Bool, true, false, List, [], ◌∷◌, ◌++◌, length, length-append, map, get_or, if◌then◌else◌}
+use Rattle.std.proofs.Common.{◌≡◌, ◌*◌, ◌∙◌, refl, sym, ap, subst, ℕ, suc, ◌+◌, ◌≤◌, arith, inl, Bool, true, false, List, [], ◌∷◌, ◌++◌, length, length-append, map, get_or, if◌then◌else◌}
 use Rattle.std.specs.Prelude.{All}
 use Rattle.std.proofs.lemmas.List.Elements.{All-nil, All-cons, All-weaker}
 use Rattle.at_value.specs.ProgramLimits.{program_limits}
