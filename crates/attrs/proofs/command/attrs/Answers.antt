@@ -1,3 +1,4 @@
+use Rattle.std.proofs.Common.{ap, arith, length}
 use Rattle.at_run.specs.PlainRun.{IsPlainRun}
 use Rattle.at_run.specs.LegalRun.{IsLegalRun}
 use Rattle.attrs.proofs.Answered.{answer_so}
@@ -10,4 +11,4 @@ returns-else-is_run-clause-usage g c = λ _. c.usage.ensures.answer (g.S.Source.
 
 pub returns-then-is_run-clause-run : goal.returns-then-is_run-clause-run
 returns-then-is_run-clause-run g c = λ is.
-    answer_so IsPlainRun IsLegalRun (λ bytes s lines last script run. let alone = main_alone bytes s script in plain_is_legal s lines last alone.0 alone.1 run) _ _ c.plain_text.result c.plain_text.ensures.answer
+    answer_so IsPlainRun IsLegalRun (λ bytes s lines last script run. let alone = main_alone bytes s script in let none = ap length alone.0 in plain_is_legal s lines last (omega arith) run) _ _ c.plain_text.result c.plain_text.ensures.answer
