@@ -42,7 +42,7 @@ usage_text = codes "usage: attrs run or plain or make SEED COUNT\n"
 
 -- The ends of a call
 
--- What is seen of a source over a call: the bytes still to come, where it tells them, and how often it failed.
+-- What is seen of a source over a call: the bytes still to come, where its content is known, and how often it failed.
 pub record SourceChange : Type 0 where
   pub before : Option (List ℕ)
   pub after : Option (List ℕ)
@@ -51,14 +51,14 @@ pub record SourceChange : Type 0 where
 
 abbrev pub source_change : {S : Type 0} → (S → Option (List ℕ)) → (S → ℕ) → S → S → SourceChange
 source_change left faults old new = record {
-    before = left old;
-    after = left new;
-    faults_before = faults old;
-    faults_after = faults new;
-  }
+  before = left old;
+  after = left new;
+  faults_before = faults old;
+  faults_after = faults new;
+}
 
--- What is seen of a sink over a call: what was written, where it tells it, whether all of it is flushed at last, and how
--- often it failed.
+-- What is seen of a sink over a call: what was written, where its content is known, whether all of it is flushed at last,
+-- and how often it failed.
 pub record SinkChange : Type 0 where
   pub before : Option (List ℕ)
   pub after : Option (List ℕ)
@@ -68,12 +68,12 @@ pub record SinkChange : Type 0 where
 
 abbrev pub sink_change : {K : Type 0} → (K → Option (List ℕ)) → (K → Bool) → (K → ℕ) → K → K → SinkChange
 sink_change written is_flushed faults old new = record {
-    before = written old;
-    after = written new;
-    is_flushed = is_flushed new;
-    faults_before = faults old;
-    faults_after = faults new;
-  }
+  before = written old;
+  after = written new;
+  is_flushed = is_flushed new;
+  faults_before = faults old;
+  faults_after = faults new;
+}
 
 -- one byte more than a script may have
 abbrev pub too_many : ℕ

@@ -98,8 +98,8 @@ fn too_long<K: Sink>(out: &mut K) -> Status
 
 /// Writes the transcript of the script of these bytes, or that they are no script.
 fn answer<K: Sink>(alloc: Global, bytes: &[u8], out: &mut K) -> Status
-    ensures answer {
-        IsTextAnswer IsPlainRun bytes.now (sink_change K.written K.is_flushed K.faults out.old out.new) result }
+    ensures answer { IsTextAnswer IsPlainRun bytes.now
+        (sink_change K.written K.is_flushed K.faults out.old out.new) result }
     ensures later { K.faults out.old ≤ K.faults out.new }
 {
     match at_script::read(alloc, bytes) {
@@ -112,8 +112,8 @@ fn answer<K: Sink>(alloc: Global, bytes: &[u8], out: &mut K) -> Status
 /// Runs the script of these bytes, and writes the transcript.
 fn transcribe<K: Sink>(alloc: Global, bytes: &[u8], script: &Script, out: &mut K) -> Status
     requires { script_of bytes.now ≡ Some script.now }
-    ensures answer {
-        IsTextAnswer IsPlainRun bytes.now (sink_change K.written K.is_flushed K.faults out.old out.new) result }
+    ensures answer { IsTextAnswer IsPlainRun bytes.now
+        (sink_change K.written K.is_flushed K.faults out.old out.new) result }
     ensures later { K.faults out.old ≤ K.faults out.new }
 {
     let Ok(ran) = run_main(alloc, script) else {

@@ -8,8 +8,7 @@ use Rattle.attrs.proofs.command.plain_text.Goals as goal
 pub returns-in-Ok-clause-answer : goal.returns-in-Ok-clause-answer
 returns-in-Ok-clause-answer g c =
     let Gave : List ℕ → Type 0 = GaveAll (g.S.Source.left c.args.src.now) (g.S.Source.left c.read_all.new.source) in
-    answered IsPlainRun _ _ c.deref.result.now c.answer.result
-    (
+    answered IsPlainRun _ _ c.deref.result.now c.answer.result (
       subst Gave (sym c.deref.ensures.value) c.in-Ok.ensures.whole,
       (let short = c.in-Ok.ensures.short in let same = ap length c.deref.ensures.value in omega arith),
       c.in-Ok.ensures.no_fault (λ failed. cc),
