@@ -1,23 +1,22 @@
 -- What is so at the answers of a call.
-use Rattle.std.proofs.Common.{◌≡◌, ◌<◌, ap, sym, ℕ, List, [], ◌∷◌, map, length, get_or, Some, arith, inl, inr}
-use Rattle.at_source.specs.Whole.{GaveAll}
+use Rattle.std.proofs.Common.{◌≡◌, ap, sym, ℕ, List, [], ◌∷◌, map, length, get_or, Some, arith, inl, inr}
 use Rattle.at_line.specs.declared.line.Line.{Line}
 use Rattle.at_model.specs.declared.last.Final as final
 use Rattle.at_script.specs.Parts.{ScriptParts}
 use Rattle.at_script.specs.Script.{script_of}
 use Rattle.attrs.specs.declared.status.Status as status
 use Rattle.attrs.specs.declared.status.Status.TheVariants as statuses
-use Rattle.attrs.specs.Answers.{Running, Ends, too_many, IsAnswer, IsTextAnswer, IsTextOf, IsTranscript}
+use Rattle.attrs.specs.Answers.{Running, SourceChange, SinkChange, ReadAll, IsAnswer, IsTextAnswer, IsTextOf, IsTranscript}
 
 -- an answer to what was read to its end
-pub answered : (Runs : Running) (before now : Ends) (bytes : List ℕ) (s : status.Status) → GaveAll before.left now.left bytes → length bytes < too_many → IsTextAnswer Runs bytes before now s → IsAnswer Runs before now s
-answered Runs before now bytes statuses.Good gave few answer = (bytes, gave, few, answer)
-answered Runs before now bytes (statuses.Refused line cause) gave few answer = (bytes, gave, few, answer)
-answered Runs before now bytes statuses.TooLong gave few answer = absurd answer
-answered Runs before now bytes statuses.Usage gave few answer = absurd answer
-answered Runs before now bytes statuses.NoMemory gave few answer = answer
-answered Runs before now bytes statuses.ReadFault gave few answer = absurd answer
-answered Runs before now bytes statuses.WriteFault gave few answer = inl (bytes, gave, few, answer)
+pub answered : (Runs : Running) (r : SourceChange) (w : SinkChange) (bytes : List ℕ) (s : status.Status) → ReadAll r bytes → IsTextAnswer Runs bytes w s → IsAnswer Runs r w s
+answered Runs r w bytes statuses.Good read answer = (bytes, read, answer)
+answered Runs r w bytes (statuses.Refused line cause) read answer = (bytes, read, answer)
+answered Runs r w bytes statuses.TooLong read answer = absurd answer
+answered Runs r w bytes statuses.Usage read answer = absurd answer
+answered Runs r w bytes statuses.NoMemory read answer = answer
+answered Runs r w bytes statuses.ReadFault read answer = absurd answer
+answered Runs r w bytes statuses.WriteFault read answer = inl (bytes, read, answer)
 
 -- What is a run of a script in one sense is one in another at each answer, where it is so of every script that bytes write.
 module _ (Runs Others : Running) (so : (bytes : List ℕ) (s : ScriptParts) (lines : List Line) (last : final.Final) → script_of bytes ≡ Some s → Runs s lines last → Others s lines last) where
@@ -28,15 +27,15 @@ module _ (Runs Others : Running) (so : (bytes : List ℕ) (s : ScriptParts) (lin
   text_so bytes written (inl t) = inl (transcript_so bytes written t)
   text_so bytes written (inr none) = inr none
 
-  pub answer_so : (before now : Ends) (s : status.Status) → IsAnswer Runs before now s → IsAnswer Others before now s
-  answer_so before now statuses.Good (bytes, gave, few, (written, t, wrote)) = (bytes, gave, few, (written, transcript_so bytes written t, wrote))
-  answer_so before now (statuses.Refused line cause) answer = answer
-  answer_so before now statuses.TooLong answer = answer
-  answer_so before now statuses.Usage answer = answer
-  answer_so before now statuses.NoMemory answer = answer
-  answer_so before now statuses.ReadFault answer = answer
-  answer_so before now statuses.WriteFault (inl (bytes, gave, few, (written, t, failed))) = inl (bytes, gave, few, (written, text_so bytes written t, failed))
-  answer_so before now statuses.WriteFault (inr long) = inr long
+  pub answer_so : (r : SourceChange) (w : SinkChange) (s : status.Status) → IsAnswer Runs r w s → IsAnswer Others r w s
+  answer_so r w statuses.Good (bytes, read, (written, t, wrote)) = (bytes, read, (written, transcript_so bytes written t, wrote))
+  answer_so r w (statuses.Refused line cause) answer = answer
+  answer_so r w statuses.TooLong answer = answer
+  answer_so r w statuses.Usage answer = answer
+  answer_so r w statuses.NoMemory answer = answer
+  answer_so r w statuses.ReadFault answer = answer
+  answer_so r w statuses.WriteFault (inl (bytes, read, (written, t, failed))) = inl (bytes, read, (written, text_so bytes written t, failed))
+  answer_so r w statuses.WriteFault (inr long) = inr long
 
 -- the one of a list
 pub lone : {X Y : Type 0} (f : X → Y) (xs : List X) (x : X) → length xs ≡ 1 → x ≡ get_or xs 0 x → map f xs ≡ f x ∷ []

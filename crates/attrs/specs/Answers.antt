@@ -1,10 +1,11 @@
 -- How each answer of a call comes about, and what is written with it.
-use Rattle.std.specs.Prelude.{ℕ, ◌≡◌, ◌<◌, ◌⊎◌, List, ◌++◌, length, Option, Some, None, codes, decimal}
+use Rattle.std.specs.Prelude.{ℕ, ◌≡◌, ◌+◌, ◌<◌, ◌⊎◌, List, ◌++◌, length, Bool, Option, Some, None, IsTrue, codes, decimal}
 use Rattle.std.specs.Io.KnownBytes.{append_known}
 use Rattle.at_source.specs.Faults.{Rose}
 use Rattle.at_source.specs.Whole.{GaveAll, GaveFirst, GaveFewer, GrewByPrefix}
 use Rattle.at_script.specs.declared.fault.Cause as cause
 use Rattle.at_script.specs.declared.fault.Cause.TheVariants as causes
+use Rattle.at_script.specs.Limits.{most_bytes}
 use Rattle.at_script.specs.Parts.{ScriptParts}
 use Rattle.at_script.specs.Script.{script_of}
 use Rattle.at_text.specs.Transcript.{text}
@@ -39,26 +40,74 @@ too_long_text = codes "refused 0 long\n"
 abbrev pub usage_text : List ℕ
 usage_text = codes "usage: attrs run or plain or make SEED COUNT\n"
 
--- The answers
+-- The ends of a call
 
--- what the source has left and the sink has written, where they tell it, and how often each failed
-pub record Ends : Type 0 where
-  pub left : Option (List ℕ)
-  pub written : Option (List ℕ)
-  pub read_faults : ℕ
-  pub write_faults : ℕ
+-- What is seen of a source over a call: the bytes still to come, where its content is known, and how often it failed.
+pub record SourceChange : Type 0 where
+  pub before : Option (List ℕ)
+  pub after : Option (List ℕ)
+  pub faults_before : ℕ
+  pub faults_after : ℕ
 
--- a script has at most 1,048,576 bytes
+abbrev pub source_change : {S : Type 0} → (S → Option (List ℕ)) → (S → ℕ) → S → S → SourceChange
+source_change left faults old new = record {
+  before = left old;
+  after = left new;
+  faults_before = faults old;
+  faults_after = faults new;
+}
+
+-- What is seen of a sink over a call: what was written, where its content is known, whether all of it is flushed at last,
+-- and how often it failed.
+pub record SinkChange : Type 0 where
+  pub before : Option (List ℕ)
+  pub after : Option (List ℕ)
+  pub is_flushed : Bool
+  pub faults_before : ℕ
+  pub faults_after : ℕ
+
+abbrev pub sink_change : {K : Type 0} → (K → Option (List ℕ)) → (K → Bool) → (K → ℕ) → K → K → SinkChange
+sink_change written is_flushed faults old new = record {
+  before = written old;
+  after = written new;
+  is_flushed = is_flushed new;
+  faults_before = faults old;
+  faults_after = faults new;
+}
+
+-- one byte more than a script may have
 abbrev pub too_many : ℕ
-too_many = 1048577
+too_many = most_bytes + 1
 
--- all the text was written
-abbrev pub Wrote : Ends → Ends → List ℕ → Type 0
-Wrote before now bytes = now.written ≡ append_known before.written bytes
+-- the source gave these bytes to its end, at most as many as a script may have, and didn't fail
+abbrev pub ReadAll : SourceChange → List ℕ → Type 0
+ReadAll r bytes = GaveAll r.before r.after bytes × (length bytes < too_many) × (r.faults_after ≡ r.faults_before)
+
+-- the source gave more bytes than a script may have, and didn't fail
+abbrev pub ReadTooMany : SourceChange → Type 0
+ReadTooMany r = GaveFirst too_many r.before r.after × (r.faults_after ≡ r.faults_before)
+
+-- the source failed
+abbrev pub FailedReading : SourceChange → Type 0
+FailedReading r = Rose r.faults_before r.faults_after × GaveFewer too_many r.before r.after
+
+-- nothing was read, and the source didn't fail
+abbrev pub ReadNothing : SourceChange → Type 0
+ReadNothing r = (r.after ≡ r.before) × (r.faults_after ≡ r.faults_before)
+
+-- all the text was written and is flushed, and the sink didn't fail
+abbrev pub Wrote : SinkChange → List ℕ → Type 0
+Wrote w bytes = (w.after ≡ append_known w.before bytes) × IsTrue w.is_flushed × (w.faults_after ≡ w.faults_before)
 
 -- the sink failed, and a prefix of the text was written
-abbrev pub FailedWriting : Ends → Ends → List ℕ → Type 0
-FailedWriting before now bytes = Rose before.write_faults now.write_faults × GrewByPrefix before.written now.written bytes
+abbrev pub FailedWriting : SinkChange → List ℕ → Type 0
+FailedWriting w bytes = Rose w.faults_before w.faults_after × GrewByPrefix w.before w.after bytes
+
+-- nothing was written
+abbrev pub WroteNothing : SinkChange → Type 0
+WroteNothing w = w.after ≡ w.before
+
+-- The answers
 
 -- which lines and last namespaces are a run of a script
 abbrev pub Running : Type 1
@@ -66,39 +115,45 @@ Running = ScriptParts → List Line → final.Final → Type 0
 
 -- the text is the transcript of a run of the script that the bytes are
 abbrev pub IsTranscript : Running → List ℕ → List ℕ → Type 0
-IsTranscript Runs bytes written = (s : ScriptParts) × (lines : List Line) × (last : final.Final) × (script_of bytes ≡ Some s) × Runs s lines last × (written ≡ text bytes s lines last)
+IsTranscript Runs bytes written =
+    (s : ScriptParts) × (lines : List Line) × (last : final.Final) ×
+    (script_of bytes ≡ Some s) × Runs s lines last × (written ≡ text bytes s lines last)
 
 -- the text that is written for an input which was read to its end: the transcript of a run, or that it is no script
 abbrev pub IsTextOf : Running → List ℕ → List ℕ → Type 0
-IsTextOf Runs bytes written = IsTranscript Runs bytes written ⊎ ((script_of bytes ≡ None) × (written ≡ refusal_text 0 causes.Script))
+IsTextOf Runs bytes written =
+    IsTranscript Runs bytes written ⊎ ((script_of bytes ≡ None) × (written ≡ refusal_text 0 causes.Script))
 
 -- What is so at each answer to an input that was read to its end.
-abbrev pub IsTextAnswer : Running → List ℕ → Ends → Ends → status.Status → Type 0
-IsTextAnswer Runs bytes before now statuses.Good = (written : List ℕ) × IsTranscript Runs bytes written × Wrote before now written
-IsTextAnswer Runs bytes before now (statuses.Refused line cause) = (script_of bytes ≡ None) × (line ≡ 0) × (cause ≡ causes.Script) × Wrote before now (refusal_text line cause)
-IsTextAnswer Runs bytes before now statuses.NoMemory = now.written ≡ before.written
-IsTextAnswer Runs bytes before now statuses.WriteFault = (written : List ℕ) × IsTextOf Runs bytes written × FailedWriting before now written
-IsTextAnswer Runs bytes before now statuses.TooLong = ⊥
-IsTextAnswer Runs bytes before now statuses.Usage = ⊥
-IsTextAnswer Runs bytes before now statuses.ReadFault = ⊥
+abbrev pub IsTextAnswer : Running → List ℕ → SinkChange → status.Status → Type 0
+IsTextAnswer Runs bytes w statuses.Good = (written : List ℕ) × IsTranscript Runs bytes written × Wrote w written
+IsTextAnswer Runs bytes w (statuses.Refused line cause) =
+    (script_of bytes ≡ None) × (line ≡ 0) × (cause ≡ causes.Script) × Wrote w (refusal_text line cause)
+IsTextAnswer Runs bytes w statuses.NoMemory = WroteNothing w
+IsTextAnswer Runs bytes w statuses.WriteFault = (written : List ℕ) × IsTextOf Runs bytes written × FailedWriting w written
+IsTextAnswer Runs bytes w statuses.TooLong = ⊥
+IsTextAnswer Runs bytes w statuses.Usage = ⊥
+IsTextAnswer Runs bytes w statuses.ReadFault = ⊥
 
 -- What is so at each answer to a script that is read and run: the transcript is written whole where the source gave a
 -- script to its end; it is refused where what the source gave to its end is no script, and, as too long, where the source
--- gave more bytes than a script has; a fault is answered only where the count of the source or the sink rose. Want of memory alone has no
--- cause; then, and at a fault of the source, nothing is written.
-abbrev pub IsAnswer : Running → Ends → Ends → status.Status → Type 0
-IsAnswer Runs before now statuses.Good = (bytes : List ℕ) × GaveAll before.left now.left bytes × (length bytes < too_many) × IsTextAnswer Runs bytes before now statuses.Good
-IsAnswer Runs before now (statuses.Refused line cause) = (bytes : List ℕ) × GaveAll before.left now.left bytes × (length bytes < too_many) × IsTextAnswer Runs bytes before now (statuses.Refused line cause)
-IsAnswer Runs before now statuses.TooLong = GaveFirst too_many before.left now.left × Wrote before now too_long_text
-IsAnswer Runs before now statuses.Usage = ⊥
-IsAnswer Runs before now statuses.NoMemory = now.written ≡ before.written
-IsAnswer Runs before now statuses.ReadFault = Rose before.read_faults now.read_faults × GaveFewer too_many before.left now.left × (now.written ≡ before.written)
-IsAnswer Runs before now statuses.WriteFault =
-    ((bytes : List ℕ) × GaveAll before.left now.left bytes × (length bytes < too_many) × IsTextAnswer Runs bytes before now statuses.WriteFault)
-    ⊎ (GaveFirst too_many before.left now.left × FailedWriting before now too_long_text)
+-- gave more bytes than a script may have. A text that was written whole is flushed, and then neither end failed; a fault is
+-- answered only where the count of the source or the sink rose. Out of memory alone has no cause; then, and at a fault of
+-- the source, nothing is written.
+abbrev pub IsAnswer : Running → SourceChange → SinkChange → status.Status → Type 0
+IsAnswer Runs r w statuses.Good = (bytes : List ℕ) × ReadAll r bytes × IsTextAnswer Runs bytes w statuses.Good
+IsAnswer Runs r w (statuses.Refused line cause) =
+    (bytes : List ℕ) × ReadAll r bytes × IsTextAnswer Runs bytes w (statuses.Refused line cause)
+IsAnswer Runs r w statuses.TooLong = ReadTooMany r × Wrote w too_long_text
+IsAnswer Runs r w statuses.Usage = ⊥
+IsAnswer Runs r w statuses.NoMemory = WroteNothing w
+IsAnswer Runs r w statuses.ReadFault = FailedReading r × WroteNothing w
+IsAnswer Runs r w statuses.WriteFault =
+    ((bytes : List ℕ) × ReadAll r bytes × IsTextAnswer Runs bytes w statuses.WriteFault)
+    ⊎ (ReadTooMany r × FailedWriting w too_long_text)
 
 -- what is so at each answer to words that are no command: nothing is read, and the usage line is written
-abbrev pub IsUsageAnswer : Ends → Ends → status.Status → Type 0
-IsUsageAnswer before now statuses.Usage = (now.left ≡ before.left) × Wrote before now usage_text
-IsUsageAnswer before now statuses.WriteFault = (now.left ≡ before.left) × FailedWriting before now usage_text
-IsUsageAnswer before now _ = ⊥
+abbrev pub IsUsageAnswer : SourceChange → SinkChange → status.Status → Type 0
+IsUsageAnswer r w statuses.Usage = ReadNothing r × Wrote w usage_text
+IsUsageAnswer r w statuses.WriteFault = ReadNothing r × FailedWriting w usage_text
+IsUsageAnswer r w _ = ⊥

@@ -1,12 +1,9 @@
 //! The commands of the program.
-ghost use Rattle.std.specs.Prelude.{◌≡◌, ◌≤◌, ◌↔◌, ◌∷◌, [], ◌⊎◌, ℕ, List, Option, Some, IsTrue, map, codes, string_bytes};
-ghost use Rattle.std.specs.Io.KnownBytes.{append_known};
-ghost use Rattle.at_source.specs.Faults.{Rose};
-ghost use Rattle.at_source.specs.Whole.{GaveFirst, GrewByPrefix};
+ghost use Rattle.std.specs.Prelude.{◌≡◌, ◌≤◌, ◌↔◌, ◌∷◌, [], ◌⊎◌, Some, IsTrue, map, codes, string_bytes};
 ghost use Rattle.at_script.specs.Script.{script_of};
 ghost use Rattle.at_run.specs.PlainRun.{IsPlainRun};
 ghost use Rattle.at_run.specs.LegalRun.{IsLegalRun};
-ghost use Rattle.attrs.specs.Answers.{Ends, IsAnswer, IsTextAnswer, IsUsageAnswer, refusal_text};
+ghost use Rattle.attrs.specs.Answers.{SourceChange, source_change, sink_change, ReadNothing, ReadTooMany, Wrote, FailedWriting, WroteNothing, IsAnswer, IsTextAnswer, IsUsageAnswer, refusal_text};
 
 use crate::gate::Gate;
 use crate::status::Status;
@@ -19,13 +16,14 @@ use std::alloc::Global;
 use std::sync::Wait;
 use std::thread::Threads;
 
-/// How many bytes are too many for a script, which has at most 1,048,576.
-const TOO_MANY: usize = 1_048_577;
+/// How many bytes are too many for a script: one more than it may have.
+pub(crate) const TOO_MANY: usize = 1_048_577;
 
 /// Does what the words say. `run` reads a script to the end of the source, runs it, and writes the transcript of one legal
 /// history: each write has its own place, the lines run the script, every reply is what the data model gives after just
 /// that many writes, and the namespaces printed last are those after all of them. Any other words are no command: nothing
-/// is read, and the usage line is written.
+/// is read, and the usage line is written. What was written whole is flushed, and then neither the source nor the sink
+/// failed in this call.
 pub fn attrs<R: Wait + Threads + Sync, S: Source, K: Sink, G: Gate + Sync>(
     _rt: &R,
     alloc: Global,
@@ -35,11 +33,13 @@ pub fn attrs<R: Wait + Threads + Sync, S: Source, K: Sink, G: Gate + Sync>(
     _gate: &G,
 ) -> Status
     ensures run { map string_bytes words.now ≡ codes "run" ∷ [] →
-        IsAnswer IsLegalRun (record { left = S.left src.old; written = K.written out.old; read_faults = S.faults src.old; write_faults = K.faults out.old })
-        (record { left = S.left src.new; written = K.written out.new; read_faults = S.faults src.new; write_faults = K.faults out.new }) result }
+        IsAnswer IsLegalRun (source_change S.left S.faults src.old src.new)
+        (sink_change K.written K.is_flushed K.faults out.old out.new) result }
     ensures usage { ¬ (map string_bytes words.now ≡ codes "run" ∷ []) →
-        IsUsageAnswer (record { left = S.left src.old; written = K.written out.old; read_faults = S.faults src.old; write_faults = K.faults out.old })
-        (record { left = S.left src.new; written = K.written out.new; read_faults = S.faults src.new; write_faults = K.faults out.new }) result }
+        IsUsageAnswer (source_change S.left S.faults src.old src.new)
+        (sink_change K.written K.is_flushed K.faults out.old out.new) result }
+
+    // No count of faults falls.
     ensures later { (S.faults src.old ≤ S.faults src.new) × (K.faults out.old ≤ K.faults out.new) }
 {
     if is_run(words) {
@@ -58,9 +58,8 @@ fn is_run(words: &[String]) -> bool
 
 /// Writes the usage line.
 fn usage<K: Sink>(out: &mut K) -> Status
-    ensures answer { (left : Option (List ℕ)) (faults : ℕ) →
-        IsUsageAnswer (record { left = left; written = K.written out.old; read_faults = faults; write_faults = K.faults out.old })
-        (record { left = left; written = K.written out.new; read_faults = faults; write_faults = K.faults out.new }) result }
+    ensures answer { (r : SourceChange) → ReadNothing r →
+        IsUsageAnswer r (sink_change K.written K.is_flushed K.faults out.old out.new) result }
     ensures later { K.faults out.old ≤ K.faults out.new }
 {
     match tell(out, b"usage: attrs run or plain or make SEED COUNT\n") {
@@ -71,10 +70,10 @@ fn usage<K: Sink>(out: &mut K) -> Status
 
 /// Reads a script to the end of the source, runs its block `main` on the plain data model, and writes the transcript.
 /// It waits for nobody. Bytes that are no script, and more bytes than a script may have, are refused by a line on the
-/// sink. A fault is answered only where the source or the sink failed in this call.
+/// sink. A fault is answered only where the source or the sink failed in this call, and what was written whole is flushed.
 pub fn plain_text<S: Source, K: Sink>(alloc: Global, src: &mut S, out: &mut K) -> Status
-    ensures answer { IsAnswer IsPlainRun (record { left = S.left src.old; written = K.written out.old; read_faults = S.faults src.old; write_faults = K.faults out.old })
-        (record { left = S.left src.new; written = K.written out.new; read_faults = S.faults src.new; write_faults = K.faults out.new }) result }
+    ensures answer { IsAnswer IsPlainRun (source_change S.left S.faults src.old src.new)
+        (sink_change K.written K.is_flushed K.faults out.old out.new) result }
     ensures later { (S.faults src.old ≤ S.faults src.new) × (K.faults out.old ≤ K.faults out.new) }
 {
     match read_all(alloc, src, TOO_MANY) {
@@ -87,9 +86,8 @@ pub fn plain_text<S: Source, K: Sink>(alloc: Global, src: &mut S, out: &mut K) -
 
 /// Writes that the input is too long for a script.
 fn too_long<K: Sink>(out: &mut K) -> Status
-    ensures answer { (before now : Option (List ℕ)) (faults risen : ℕ) → GaveFirst 1048577 before now →
-        IsAnswer IsPlainRun (record { left = before; written = K.written out.old; read_faults = faults; write_faults = K.faults out.old })
-        (record { left = now; written = K.written out.new; read_faults = risen; write_faults = K.faults out.new }) result }
+    ensures answer { (r : SourceChange) → ReadTooMany r →
+        IsAnswer IsPlainRun r (sink_change K.written K.is_flushed K.faults out.old out.new) result }
     ensures later { K.faults out.old ≤ K.faults out.new }
 {
     match tell(out, b"refused 0 long\n") {
@@ -100,9 +98,8 @@ fn too_long<K: Sink>(out: &mut K) -> Status
 
 /// Writes the transcript of the script of these bytes, or that they are no script.
 fn answer<K: Sink>(alloc: Global, bytes: &[u8], out: &mut K) -> Status
-    ensures answer { (left now : Option (List ℕ)) (faults risen : ℕ) →
-        IsTextAnswer IsPlainRun bytes.now (record { left = left; written = K.written out.old; read_faults = faults; write_faults = K.faults out.old })
-        (record { left = now; written = K.written out.new; read_faults = risen; write_faults = K.faults out.new }) result }
+    ensures answer { IsTextAnswer IsPlainRun bytes.now
+        (sink_change K.written K.is_flushed K.faults out.old out.new) result }
     ensures later { K.faults out.old ≤ K.faults out.new }
 {
     match at_script::read(alloc, bytes) {
@@ -115,9 +112,8 @@ fn answer<K: Sink>(alloc: Global, bytes: &[u8], out: &mut K) -> Status
 /// Runs the script of these bytes, and writes the transcript.
 fn transcribe<K: Sink>(alloc: Global, bytes: &[u8], script: &Script, out: &mut K) -> Status
     requires { script_of bytes.now ≡ Some script.now }
-    ensures answer { (left now : Option (List ℕ)) (faults risen : ℕ) →
-        IsTextAnswer IsPlainRun bytes.now (record { left = left; written = K.written out.old; read_faults = faults; write_faults = K.faults out.old })
-        (record { left = now; written = K.written out.new; read_faults = risen; write_faults = K.faults out.new }) result }
+    ensures answer { IsTextAnswer IsPlainRun bytes.now
+        (sink_change K.written K.is_flushed K.faults out.old out.new) result }
     ensures later { K.faults out.old ≤ K.faults out.new }
 {
     let Ok(ran) = run_main(alloc, script) else {
@@ -132,9 +128,12 @@ fn transcribe<K: Sink>(alloc: Global, bytes: &[u8], script: &Script, out: &mut K
 
 /// Writes why the bytes are no script.
 fn refuse<K: Sink>(alloc: Global, line: u32, cause: Cause, out: &mut K) -> Status
-    ensures refused { result ≡ Status.Refused line cause → K.written out.new ≡ append_known (K.written out.old) (refusal_text line cause) }
-    ensures fault { result ≡ Status.WriteFault → Rose (K.faults out.old) (K.faults out.new) × GrewByPrefix (K.written out.old) (K.written out.new) (refusal_text line cause) }
-    ensures no_memory { result ≡ Status.NoMemory → K.written out.new ≡ K.written out.old }
+    ensures refused { result ≡ Status.Refused line cause →
+        Wrote (sink_change K.written K.is_flushed K.faults out.old out.new) (refusal_text line cause) }
+    ensures fault { result ≡ Status.WriteFault →
+        FailedWriting (sink_change K.written K.is_flushed K.faults out.old out.new) (refusal_text line cause) }
+    ensures no_memory { result ≡ Status.NoMemory →
+        WroteNothing (sink_change K.written K.is_flushed K.faults out.old out.new) }
     ensures answers { (result ≡ Status.Refused line cause) ⊎ (result ≡ Status.WriteFault) ⊎ (result ≡ Status.NoMemory) }
     ensures later { K.faults out.old ≤ K.faults out.new }
 {

@@ -7,32 +7,24 @@ mod status;
 mod telling;
 #[cfg(test)]
 mod tests;
+mod words;
 
 use at_source::{StdSink, StdSource};
 use command::attrs;
 use gate::OpenGate;
 use std::alloc::AllocError;
 use std::env;
-use std::io::ErrorKind;
 use std::process::ExitCode;
+use words::words_from;
 
-/// The words after the program's name. Words that aren't UTF-8 stand as one empty word, which no command is.
-fn words(rt: &HostRuntime) -> Result<Vec<String>, AllocError> {
-    let mut words = Vec::new(rt.alloc());
-    match env::args(rt) {
-        Ok(args) => {
-            for word in args.skip(1) {
-                words.push(word)?;
-            }
-        }
-        Err(error) if error.kind() == ErrorKind::OutOfMemory => return Err(AllocError),
-        Err(_) => words.push(String::new(rt.alloc()))?,
-    }
-    Ok(words)
+/// The words after the program's name.
+fn given_words(rt: &HostRuntime) -> Result<Vec<String>, AllocError> {
+    let arguments = env::args(rt).and_then(|all| Ok(all.collect(rt.alloc())?));
+    words_from(rt.alloc(), arguments)
 }
 
 fn main(rt: HostRuntime) -> ExitCode {
-    let Ok(words) = words(&rt) else {
+    let Ok(words) = given_words(&rt) else {
         return ExitCode::from(status::Status::NoMemory.code());
     };
     let mut source = StdSource::new(rt.stdin());

@@ -25,7 +25,7 @@ pub enum Status {
 
 impl Status {
     /// The exit status of the process: 0 for `Good`, 1 for what isn't a script, 2 for words that are no command, 3 for
-    /// want of memory, 4 for a fault of the source and 5 for one of the sink.
+    /// out of memory, 4 for a fault of the source and 5 for one of the sink.
     pub fn code(&self) -> u8
         ensures { result ≡ code_of self.now }
     {

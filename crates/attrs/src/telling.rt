@@ -1,5 +1,5 @@
 //! Short texts on the sink: why an input is refused.
-ghost use Rattle.std.specs.Prelude.{◌≡◌, ◌≤◌, IfOk, OnOk, OnErr};
+ghost use Rattle.std.specs.Prelude.{◌≡◌, ◌≤◌, IsTrue, IfOk, OnOk, OnErr};
 ghost use Rattle.std.specs.Io.KnownBytes.{append_known};
 ghost use Rattle.at_source.specs.Faults.{Rose};
 ghost use Rattle.at_source.specs.Whole.{GrewByPrefix};
@@ -9,12 +9,16 @@ use at_script::Cause;
 use at_source::{Failed, Sink, send};
 use std::alloc::{AllocError, Global};
 
-/// Writes a text and hands it on.
+/// Writes a text and flushes it. It is tried once: where the sink fails, a prefix of the text was written.
 pub fn tell<K: Sink>(out: &mut K, text: &[u8]) -> Result<(), Failed>
     ensures whole { OnOk result (K.written out.new ≡ append_known (K.written out.old) text.now) }
+    ensures flushed { OnOk result (IsTrue (K.is_flushed out.new)) }
     ensures part { OnErr result (GrewByPrefix (K.written out.old) (K.written out.new) text.now) }
-    ensures later { K.faults out.old ≤ K.faults out.new }
+
+    // The count of faults rises exactly where it fails, and never falls.
+    ensures no_fault { OnOk result (K.faults out.new ≡ K.faults out.old) }
     ensures cause { OnErr result (Rose (K.faults out.old) (K.faults out.new)) }
+    ensures later { K.faults out.old ≤ K.faults out.new }
 {
     send(out, text)?;
     out.flush()

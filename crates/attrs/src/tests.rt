@@ -1,13 +1,13 @@
-//! The program end to end, over sources and sinks in memory: the text that it writes, and how it ends.
+//! The program end to end, over sources and sinks in memory: the text that it writes, and how it ends. More scripts stand
+//! in `examples/`, each beside its transcript.
 
 mod changes;
 mod judging;
-mod operands;
-mod reads;
-mod rows;
+mod limits;
+mod words;
 
 use crate::command::{attrs, plain_text};
-use crate::gate::{Gate, OpenGate};
+use crate::gate::OpenGate;
 use crate::status::Status;
 use at_script::Cause;
 use at_source::{MemSink, MemSource};
@@ -21,8 +21,6 @@ const FIRST: &str = "attrs 1\nmain\nclass C\nput C.x 1\nnew a C\nget a.x\nget a.
 
 const TRANSCRIPT: &str =
     "attrs transcript 1\nscript 59\nattrs 1\nmain\nclass C\nput C.x 1\nnew a C\nget a.x\nget a.x\nend\n\nlines 5\nm 1 1 locked class C object = done\nm 2 2 locked put C.x 1 = done\nm 3 3 locked new C = made #0\nm 4 3 locked get #0.x = value 1\nm 5 3 locked get #0.x = value 1\nfinal\nclass object = object\nclass C = C object\n.x 1\nobject #0 C\nend\n";
-
-const USAGE: &str = "usage: attrs run or plain or make SEED COUNT\n";
 
 const NOT_A_SCRIPT: Status = Status::Refused(0, Cause::Script);
 
@@ -137,35 +135,6 @@ fn assert_ended<R: Abort>(rt: &R, ended: &Ended, status: Status, written: &[u8],
     assert_eq!(rt; ended.out.bytes(), written, "{ends:?}");
 }
 
-/// The transcript that has this after its script.
-fn transcript(alloc: Global, script: &str, told: &str) -> Result<String, AllocError> {
-    let length = script.len();
-    format!(in alloc; "attrs transcript 1\nscript {length}\n{script}\n{told}")
-}
-
-/// Runs the script by the word `run`. What is written has to be the script as transcripts begin, and then what is told.
-fn transcribes<R: Wait + Threads + Sync + Abort>(
-    rt: &R,
-    alloc: Global,
-    script: &str,
-    told: &str,
-) -> Result<(), AllocError> {
-    let wanted = transcript(alloc, script, told)?;
-    command_ends(rt, alloc, &["run"], script, Status::Good, &wanted)
-}
-
-/// Runs each script, and compares what is told.
-fn all_transcribe<R: Wait + Threads + Sync + Abort>(
-    rt: &R,
-    alloc: Global,
-    rows: &[(&str, &str)],
-) -> Result<(), AllocError> {
-    for (script, told) in rows {
-        transcribes(rt, alloc, script, told)?;
-    }
-    Ok(())
-}
-
 /// Scripts, what is written for them, and how the call ends.
 const TEXTS: [(&str, &str, Status); 5] = [
     (
@@ -277,72 +246,6 @@ fn a_write_fault_leaves_a_prefix_of_a_refusal(rt: HostRuntime) -> Result<(), Fai
     for number in 0..=refusal.len() {
         let written = prefix(refusal, number);
         write_fails(&rt, rt.alloc(), "", &failing_at(number), written)?;
-    }
-    Ok(())
-}
-
-/// Words, how the program ends, and what it writes.
-const COMMANDS: [(&[&str], Status, &str); 9] = [
-    (&[], Status::Usage, USAGE),
-    (&["run", "x"], Status::Usage, USAGE),
-    (&["RUN"], Status::Usage, USAGE),
-    (&["runs"], Status::Usage, USAGE),
-    (&["plain"], Status::Usage, USAGE),
-    (&["make", "1", "1"], Status::Usage, USAGE),
-    (&["check"], Status::Usage, USAGE),
-    (&[""], Status::Usage, USAGE),
-    (&["run"], Status::Good, TRANSCRIPT),
-];
-
-#[test]
-fn words_are_compared_whole(rt: HostRuntime) -> Result<(), Fail> {
-    for (words, status, written) in COMMANDS {
-        command_ends(&rt, rt.alloc(), words, FIRST, status, written)?;
-    }
-    OpenGate.before(&rt, 0, 1);
-    Ok(())
-}
-
-#[test]
-fn statuses_have_their_codes(rt: HostRuntime) {
-    let rows = [
-        (Status::Good, 0),
-        (Status::Refused(3, Cause::Form), 1),
-        (Status::TooLong, 1),
-        (Status::Usage, 2),
-        (Status::NoMemory, 3),
-        (Status::ReadFault, 4),
-        (Status::WriteFault, 5),
-    ];
-    for (status, code) in rows {
-        assert_eq!(rt; status.code(), code, "{status:?}");
-    }
-}
-
-/// Runs so many bytes, which are no script.
-fn long_ends<R: Abort>(
-    rt: &R,
-    alloc: Global,
-    length: usize,
-    status: Status,
-    written: &str,
-) -> Result<(), AllocError> {
-    let bytes = vec![in alloc; b'a'; length]?;
-    let ends = Ends {
-        most_read: 100_000,
-        ..SOUND
-    };
-    plain_ends(rt, alloc, &bytes, &ends, status, written.as_bytes())
-}
-
-#[test]
-fn long_inputs_are_refused(rt: HostRuntime) -> Result<(), Fail> {
-    for (length, written, status) in [
-        (1_048_576, "refused 0 script\n", NOT_A_SCRIPT),
-        (1_048_577, "refused 0 long\n", Status::TooLong),
-        (1_100_000, "refused 0 long\n", Status::TooLong),
-    ] {
-        long_ends(&rt, rt.alloc(), length, status, written)?;
     }
     Ok(())
 }

@@ -1,5 +1,6 @@
 //! Whether lines are a run of a script, and whether they are legal, as the code decides whose contracts are the
-//! definitions: the thread that runs a script, and the data model.
+//! definitions: the thread that runs a script, and the data model. It is as it was first written, and goes once a proved
+//! checker exists.
 use at_line::{Line, LineOp, LineReply, Local, What};
 use at_script::{Block, Script, Stmt};
 use at_thread::{Next, ReplyUse, Thread};
@@ -54,7 +55,7 @@ fn stands_for(op: &LineOp, local: &Local) -> bool {
 /// The thread takes the reply of its line, where the operation may reply so.
 fn takes_reply(thread: &mut Thread, op: &LineOp, used: &ReplyUse, reply: &LineReply) -> bool {
     match reply {
-        LineReply::Of(reply) => match op {
+        LineReply::Of(_) => match op {
             LineOp::Of(_) => {
                 thread.accept(used, reply);
                 true
@@ -122,6 +123,7 @@ fn take_turn<'a>(thread: &mut Thread<'a>, script: &'a Script, line: Option<&Line
     match (thread.next(script), line) {
         (Next::Ended, _) => Turn::Ended,
         (Next::Silent, _) => Turn::Silent,
+        (Next::Checkpoint, _) => Turn::Silent,
         (Next::Says(local), Some(line)) => said(says(line, &local)),
         (Next::Asks(op, used), Some(line)) => said(takes(thread, &op, &used, line)),
         (_, None) => Turn::Strayed,

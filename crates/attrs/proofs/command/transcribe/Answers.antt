@@ -8,4 +8,4 @@ run_main-requires g c = main_alone c.args.bytes.now c.args.script.now c.requires
 pub returns-clause-answer : goal.returns-clause-answer
 returns-clause-answer g c =
     let fault = ap (λ f. Err f) c.in-Err-WriteFault.field-0-is in
-    λ left now faults risen. (_, inl (c.args.script.now, _, _, c.requires, c.in-Ok.ensures, refl), (c.in-Err-WriteFault.ensures.cause fault, c.in-Err-WriteFault.ensures.prefix fault))
+    (_, inl (c.args.script.now, _, _, c.requires, c.in-Ok.ensures, refl), (c.in-Err-WriteFault.ensures.cause fault, c.in-Err-WriteFault.ensures.prefix fault))
