@@ -4,20 +4,14 @@ use Rattle.at_value.specs.declared.value.Value.TheVariants as values
 use Rattle.at_value.specs.declared.operation.Op as op
 use Rattle.at_value.specs.declared.operation.Op.TheVariants as ops
 use Rattle.at_value.specs.declared.reply.Reply.TheVariants as replies
-use Rattle.at_value.specs.declared.reply.Path.TheVariants as paths
 use Rattle.at_line.specs.declared.line.Line.{Line}
-use Rattle.at_line.specs.declared.line.LineOp.TheVariants as line_ops
 use Rattle.at_line.specs.declared.line.LineReply.TheVariants as line_replies
 use Rattle.at_line.specs.declared.line.What as what
-use Rattle.at_line.specs.declared.line.What.TheVariants as whats
 use Rattle.at_line.specs.Lines.{main_thread}
-use Rattle.at_line.specs.LineExamples.{does, line_in, makes_class}
-
-abbrev pub begins : ℕ → ℕ → what.What
-begins place o = whats.Did (record { 0 = place }) paths.Locked (line_ops.Begin o None) (line_replies.Of replies.Done)
+use Rattle.at_line.specs.LineExamples.{begins, ends, does, line_in, makes_class}
 
 abbrev pub ends_kept : ℕ → what.What
-ends_kept place = whats.Did (record { 0 = place }) paths.Locked line_ops.Finish line_replies.Kept
+ends_kept place = ends place line_replies.Kept
 
 abbrev pub sets : ℕ → op.Op
 sets o = ops.Set o 5 (values.Int (pos 7))

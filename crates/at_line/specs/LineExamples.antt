@@ -1,5 +1,5 @@
 -- A legal list of lines, and lists that differ from it in one line and aren't legal.
-use Rattle.std.specs.Prelude.{ℕ, pos, List, [], ◌∷◌, None, set}
+use Rattle.std.specs.Prelude.{ℕ, pos, List, [], ◌∷◌, ◌++◌, Some, None, set}
 use Rattle.at_value.specs.declared.limits.Limits.{Limits}
 use Rattle.at_value.specs.declared.value.Value.TheVariants as values
 use Rattle.at_value.specs.declared.operation.Op as op
@@ -7,10 +7,13 @@ use Rattle.at_value.specs.declared.operation.Op.TheVariants as ops
 use Rattle.at_value.specs.declared.reply.Reply as reply
 use Rattle.at_value.specs.declared.reply.Reply.TheVariants as replies
 use Rattle.at_value.specs.declared.reply.Path as path
+use Rattle.at_value.specs.declared.reply.Miss as miss
 use Rattle.at_value.specs.declared.reply.Miss.TheVariants as misses
 use Rattle.at_value.specs.declared.reply.Path.TheVariants as paths
 use Rattle.at_line.specs.declared.line.Line.{Line}
+use Rattle.at_line.specs.declared.line.LineOp as line_op
 use Rattle.at_line.specs.declared.line.LineOp.TheVariants as line_ops
+use Rattle.at_line.specs.declared.line.LineReply as line_reply
 use Rattle.at_line.specs.declared.line.LineReply.TheVariants as line_replies
 use Rattle.at_line.specs.declared.line.Local.TheVariants as locals
 use Rattle.at_line.specs.declared.line.What as what
@@ -53,21 +56,33 @@ eight = replies.Value (values.Int (pos 8))
 abbrev pub line_in : ℕ → ℕ → what.What → Line
 line_in thread number w = record { what = w; number = number; thread = thread }
 
--- `main` makes a class and an object, and a section over it; two threads write and read the object, and the second names
--- both limits; `finally` reads it.
+abbrev pub begins : ℕ → ℕ → what.What
+begins place o = whats.Did (record { 0 = place }) paths.Locked (line_ops.Begin o None) (line_replies.Of replies.Done)
+
+abbrev pub ends : ℕ → line_reply.LineReply → what.What
+ends place said = whats.Did (record { 0 = place }) paths.Locked line_ops.Finish said
+
+-- `main` makes a class and an object, and has a section over it that is kept; two threads write and read the object, and
+-- the second names both limits; a third has a section over it that is suspended, and names the highest sequence that
+-- sixteen lines can have brought about; `finally` reads the object and has a section over it that is kept.
 abbrev pub legal_lines : List Line
 legal_lines =
     line_in main_thread 1 (does 1 makes_class replies.Done)
     ∷ line_in main_thread 2 (does 2 (ops.New 1) (replies.Made 0 None))
-    ∷ line_in main_thread 3 (whats.Did (record { 0 = 2 }) paths.Locked (line_ops.Begin 0 None) (line_replies.Of replies.Done))
-    ∷ line_in main_thread 4 (whats.Did (record { 0 = 2 }) paths.Locked line_ops.Finish line_replies.Kept)
+    ∷ line_in main_thread 3 (begins 2 0)
+    ∷ line_in main_thread 4 (ends 2 line_replies.Kept)
     ∷ line_in 1 1 (does 3 sets_five replies.Done)
     ∷ line_in 1 2 (does 4 gets_six eight)
     ∷ line_in 2 1 (does 2 gets_five replies.NoAttr)
     ∷ line_in 2 2 (does 4 sets_six replies.Done)
     ∷ line_in 2 3 (whats.Local (locals.Full 4))
     ∷ line_in 2 4 (whats.Local (locals.Worn 6))
+    ∷ line_in 3 1 (begins 3 0)
+    ∷ line_in 3 2 (ends 4 (line_replies.Suspended 1))
+    ∷ line_in 3 3 (whats.Local (locals.Worn 64))
     ∷ line_in finally_thread 1 (does 4 gets_five seven)
+    ∷ line_in finally_thread 2 (begins 4 0)
+    ∷ line_in finally_thread 3 (ends 4 line_replies.Kept)
     ∷ []
 
 abbrev pub legal_history : List op.Op
@@ -105,9 +120,13 @@ read_past_the_end = set legal_lines 5 (line_in 1 2 (does 5 gets_six eight))
 abbrev pub reply_of_the_place_before : List Line
 reply_of_the_place_before = set legal_lines 5 (line_in 1 2 (does 4 gets_six replies.NoAttr))
 
--- `main` gives its section back
+-- the section of `main` is suspended, which no thread can have brought about
 abbrev pub suspended_in_main : List Line
-suspended_in_main = set legal_lines 3 (line_in main_thread 4 (whats.Did (record { 0 = 2 }) paths.Locked line_ops.Finish (line_replies.Suspended 1)))
+suspended_in_main = set legal_lines 3 (line_in main_thread 4 (ends 2 (line_replies.Suspended 1)))
+
+-- the section of `finally` is suspended, which no thread can have brought about either
+abbrev pub suspended_in_finally : List Line
+suspended_in_finally = set legal_lines 15 (line_in finally_thread 3 (ends 4 (line_replies.Suspended 1)))
 
 -- the first thread writes at place 3 and then reads at place 2
 abbrev pub place_falls : List Line
@@ -123,7 +142,13 @@ thread_before_main = set legal_lines 6 (line_in 2 1 (does 1 gets_five replies.No
 
 -- `finally` reads at a place below the last of a thread
 abbrev pub finally_before_thread : List Line
-finally_before_thread = set legal_lines 10 (line_in finally_thread 1 (does 3 gets_five seven))
+finally_before_thread = set legal_lines 13 (line_in finally_thread 1 (does 3 gets_five seven))
+
+-- with no thread between them, `finally` reads at a place below the last of `main`: the object isn't made yet there
+abbrev pub finally_before_main : List Line
+finally_before_main =
+    line_in main_thread 1 (does 1 makes_class replies.Done) ∷ line_in main_thread 2 (does 2 (ops.New 1) (replies.Made 0 None))
+    ∷ line_in finally_thread 1 (does 1 gets_five replies.NoAttr) ∷ []
 
 -- `full` below the limit, and above the count of writes
 abbrev pub full_too_early : List Line
@@ -137,23 +162,72 @@ abbrev pub worn_too_early : List Line
 worn_too_early = set legal_lines 9 (line_in 2 4 (whats.Local (locals.Worn 4)))
 
 abbrev pub worn_too_far : List Line
-worn_too_far = set legal_lines 9 (line_in 2 4 (whats.Local (locals.Worn 46)))
+worn_too_far = set legal_lines 9 (line_in 2 4 (whats.Local (locals.Worn 65)))
 
 -- a read that went without a lock
 abbrev pub read_without_locks : List Line
-read_without_locks = set legal_lines 10 (line_in finally_thread 1 (does_by paths.Fast 4 gets_five seven))
+read_without_locks = set legal_lines 13 (line_in finally_thread 1 (does_by paths.Fast 4 gets_five seven))
 
--- Ways
+-- Ways: each operation with each path, once
 
--- operations with ways that they may go where reads and writes go without locks
-abbrev pub ways_there : List (op.Op × path.Path)
+-- the operations that have a fast way
+abbrev pub fast_operations : List line_op.LineOp
+fast_operations =
+    line_ops.Of gets_five ∷ line_ops.Of sets_five ∷ line_ops.Of (ops.Del 0 5) ∷ line_ops.Of (ops.Special 0 5) ∷ line_ops.Of (ops.TypeGet 1 5) ∷ line_ops.Of (ops.ClassOf 0) ∷ []
+
+-- those that have none, and the begin and the end of a section
+abbrev pub locked_operations : List line_op.LineOp
+locked_operations =
+    line_ops.Of makes_class ∷ line_ops.Of (ops.TypeSet 1 5 values.Nothing) ∷ line_ops.Of (ops.TypeDel 1 5) ∷ line_ops.Of (ops.SetBases 1 (0 ∷ [])) ∷ line_ops.Of (ops.New 1)
+    ∷ line_ops.Of (ops.SetClass 0 1) ∷ line_ops.Of (ops.Share 0 1) ∷ line_ops.Of (ops.Super 1 0 5) ∷ line_ops.Of (ops.Mro 1) ∷ line_ops.Begin 0 None ∷ line_ops.Begin 0 (Some 1)
+    ∷ line_ops.Finish ∷ []
+
+abbrev pub going : path.Path → List line_op.LineOp → List (line_op.LineOp × path.Path)
+going way [] = []
+going way (operation ∷ more) = (operation, way) ∷ going way more
+
+abbrev pub missing : line_op.LineOp → List miss.Miss → List (line_op.LineOp × path.Path)
+missing operation [] = []
+missing operation (m ∷ more) = (operation, paths.Slow m) ∷ missing operation more
+
+abbrev pub each_missing : List line_op.LineOp → List miss.Miss → List (line_op.LineOp × path.Path)
+each_missing [] ms = []
+each_missing (operation ∷ more) ms = missing operation ms ++ each_missing more ms
+
+-- the misses of a tag and of a cache entry
+abbrev pub cache_misses : List miss.Miss
+cache_misses = misses.Untagged 1 ∷ misses.Unlike 4 ∷ misses.Writing 4 5 ∷ misses.Changed 4 6 8 ∷ []
+
+-- the object was being written, or a word was changed meanwhile
+abbrev pub word_misses : List miss.Miss
+word_misses = misses.Odd 0 3 ∷ misses.Moved 0 3 4 ∷ []
+
+abbrev pub dictionary_misses : List miss.Miss
+dictionary_misses = misses.Dict 0 4 ∷ []
+
+abbrev pub key_misses : List miss.Miss
+key_misses = misses.Keyless 1 5 ∷ []
+
+abbrev pub all_misses : List miss.Miss
+all_misses = cache_misses ++ word_misses ++ dictionary_misses ++ key_misses
+
+-- the ways that operations may go where reads and writes go without locks
+abbrev pub ways_there : List (line_op.LineOp × path.Path)
 ways_there =
-    (gets_five, paths.Fast) ∷ (gets_five, paths.Slow (misses.Dict 0 4)) ∷ (gets_five, paths.Slow (misses.Moved 0 3 4)) ∷ (sets_five, paths.Slow (misses.Keyless 1 5))
-    ∷ (ops.TypeGet 1 5, paths.Slow (misses.Untagged 1)) ∷ (ops.ClassOf 0, paths.Slow (misses.Odd 0 3)) ∷ (makes_class, paths.Locked) ∷ (ops.Mro 1, paths.Locked) ∷ []
+    going paths.Fast fast_operations ++ going paths.Locked locked_operations
+    ++ missing (line_ops.Of sets_five) all_misses
+    ++ missing (line_ops.Of gets_five) (cache_misses ++ word_misses ++ dictionary_misses)
+    ++ missing (line_ops.Of (ops.Del 0 5)) (cache_misses ++ word_misses ++ dictionary_misses)
+    ++ missing (line_ops.Of (ops.Special 0 5)) (cache_misses ++ word_misses)
+    ++ missing (line_ops.Of (ops.TypeGet 1 5)) (cache_misses ++ word_misses)
+    ++ missing (line_ops.Of (ops.ClassOf 0)) word_misses
 
--- and with ways that they don't go there
-abbrev pub ways_not_there : List (op.Op × path.Path)
+-- and those that they don't go there
+abbrev pub ways_not_there : List (line_op.LineOp × path.Path)
 ways_not_there =
-    (gets_five, paths.Locked) ∷ (gets_five, paths.Slow (misses.Keyless 1 5)) ∷ (sets_five, paths.Locked) ∷ (ops.Del 0 5, paths.Slow (misses.Keyless 1 5))
-    ∷ (ops.Special 0 5, paths.Slow (misses.Dict 0 4)) ∷ (ops.ClassOf 0, paths.Slow (misses.Untagged 1)) ∷ (makes_class, paths.Fast) ∷ (ops.Mro 1, paths.Fast)
-    ∷ (ops.Super 1 0 5, paths.Slow (misses.Untagged 1)) ∷ []
+    going paths.Locked fast_operations ++ going paths.Fast locked_operations ++ each_missing locked_operations all_misses
+    ++ missing (line_ops.Of gets_five) key_misses
+    ++ missing (line_ops.Of (ops.Del 0 5)) key_misses
+    ++ missing (line_ops.Of (ops.Special 0 5)) (dictionary_misses ++ key_misses)
+    ++ missing (line_ops.Of (ops.TypeGet 1 5)) (dictionary_misses ++ key_misses)
+    ++ missing (line_ops.Of (ops.ClassOf 0)) (cache_misses ++ dictionary_misses ++ key_misses)

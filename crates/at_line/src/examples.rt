@@ -1,16 +1,18 @@
 //! Lists of lines that are legal or not, each by the part that decides it.
-ghost use Rattle.std.specs.Prelude.{◌≡◌, ℕ, List, true, false};
+ghost use Rattle.std.specs.Prelude.{◌≡◌, ◌↔◌, ℕ, List, true, false};
 ghost use Rattle.std.specs.List.{list_all, list_any};
 ghost use Rattle.at_value.specs.declared.operation.Op as op;
 ghost use Rattle.at_line.specs.Lines.{IsHistory};
 ghost use Rattle.at_model.specs.World.{opening};
 ghost use Rattle.at_line.specs.Legal.{IsLinearized, AreWritesTrue, AreReadsTrue, AreRising, AreInTurn, AreLimitsMet};
-ghost use Rattle.at_line.specs.Paths.{AreLocked, is_shared_way};
+ghost use Rattle.at_line.specs.Paths.{AreLocked, ArePathsAllowed, is_way_of_line};
+ghost use Rattle.at_line.specs.declared.line.Line.{Line};
 ghost use Rattle.at_line.specs.Kept.{IsKept};
 ghost use Rattle.at_line.specs.KeptExamples.{other_written, other_written_history, written_once_ended, object_written, object_written_history, dictionary_written, dictionary_written_history, inner_written, outer_written};
-ghost use Rattle.at_line.specs.LineExamples.{example_limits, legal_lines, legal_history, place_twice, place_left_out, other_object_made, refused_write_done, refused_write_history, read_past_the_end, reply_of_the_place_before, suspended_in_main, place_falls, write_at_a_place_read, thread_before_main, finally_before_thread, full_too_early, full_past_the_end, worn_too_early, worn_too_far, read_without_locks, ways_there, ways_not_there};
+ghost use Rattle.at_line.specs.LineExamples.{example_limits, legal_lines, legal_history, place_twice, place_left_out, other_object_made, refused_write_done, refused_write_history, read_past_the_end, reply_of_the_place_before, suspended_in_main, suspended_in_finally, place_falls, write_at_a_place_read, thread_before_main, finally_before_thread, finally_before_main, full_too_early, full_past_the_end, worn_too_early, worn_too_far, read_without_locks, ways_there, ways_not_there};
 
-/// A list of lines of `main`, two threads and `finally` that is linearized, all of them under locks.
+/// A list of lines of `main`, three threads and `finally` that is linearized, a section of a thread suspended among them, and
+/// each operation the locked way.
 pub fn legal_example()
     ensures linearized { IsLinearized opening example_limits legal_history legal_lines }
     ensures locked { AreLocked legal_lines }
@@ -22,14 +24,16 @@ pub fn lists_without_history()
     ensures left_out { (history : List op.Op) → ¬ IsHistory place_left_out history }
 {}
 
-/// Lists with a history, in which a reply is wrong: of a write, of a read, or of the end of a section of `main`.
+/// Lists with a history, in which a reply is wrong: of a write, of a read, or of the end of a section of `main` or of
+/// `finally`.
 pub fn lists_with_wrong_replies()
-    ensures histories { IsHistory other_object_made legal_history × IsHistory refused_write_done refused_write_history × IsHistory read_past_the_end legal_history × IsHistory reply_of_the_place_before legal_history × IsHistory suspended_in_main legal_history }
+    ensures histories { IsHistory other_object_made legal_history × IsHistory refused_write_done refused_write_history × IsHistory read_past_the_end legal_history × IsHistory reply_of_the_place_before legal_history × IsHistory suspended_in_main legal_history × IsHistory suspended_in_finally legal_history }
     ensures made { ¬ AreWritesTrue opening legal_history other_object_made }
     ensures done { ¬ AreWritesTrue opening refused_write_history refused_write_done }
     ensures past { ¬ AreReadsTrue opening legal_history read_past_the_end }
     ensures before { ¬ AreReadsTrue opening legal_history reply_of_the_place_before }
     ensures suspended { ¬ AreReadsTrue opening legal_history suspended_in_main }
+    ensures suspended_last { ¬ AreReadsTrue opening legal_history suspended_in_finally }
 {}
 
 /// Lists in which places fall, or threads are out of turn.
@@ -38,9 +42,10 @@ pub fn lists_with_wrong_places()
     ensures read_before { ¬ AreRising write_at_a_place_read }
     ensures thread { ¬ AreInTurn thread_before_main }
     ensures finally { ¬ AreInTurn finally_before_thread }
+    ensures finally_alone { ¬ AreInTurn finally_before_main }
 {}
 
-/// Lists in which a limit is named that wasn't met, or an operation went without a lock.
+/// Lists in which a limit is named that wasn't met, or an operation went the fast way.
 pub fn lists_with_wrong_limits_and_paths()
     ensures full_early { ¬ AreLimitsMet example_limits full_too_early }
     ensures full_far { ¬ AreLimitsMet example_limits full_past_the_end }
@@ -49,10 +54,18 @@ pub fn lists_with_wrong_limits_and_paths()
     ensures path { ¬ AreLocked read_without_locks }
 {}
 
-/// Ways that operations go where reads and writes go without locks, and ways that they don't go there.
+/// The ways that each operation goes where reads and writes go without locks, and those that it doesn't go there: each
+/// operation with each path.
 pub fn ways_of_operations()
-    ensures there { list_all (λ w. is_shared_way w.0 w.1) ways_there ≡ true }
-    ensures not_there { list_any (λ w. is_shared_way w.0 w.1) ways_not_there ≡ false }
+    ensures there { list_all (λ w. is_way_of_line w.0 w.1) ways_there ≡ true }
+    ensures not_there { list_any (λ w. is_way_of_line w.0 w.1) ways_not_there ≡ false }
+{}
+
+/// The ways of today, as long as no operation goes without locks: the locked one alone. These clauses go when the choice in
+/// `is_allowed_way` changes.
+pub fn ways_of_today()
+    ensures today { (lines : List Line) → ArePathsAllowed lines ↔ AreLocked lines }
+    ensures fast { ¬ ArePathsAllowed read_without_locks }
 {}
 
 /// Lists with sections that are kept, while another thread writes another object, or an object whose section has ended.

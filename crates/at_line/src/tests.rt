@@ -19,6 +19,7 @@ fn each_list_is_judged_by_its_part() {
     examples::lists_with_wrong_places();
     examples::lists_with_wrong_limits_and_paths();
     examples::ways_of_operations();
+    examples::ways_of_today();
     examples::kept_examples();
     examples::lists_with_broken_sections();
 }

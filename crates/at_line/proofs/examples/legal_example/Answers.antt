@@ -1,4 +1,4 @@
-use Rattle.std.proofs.Common.{refl, lit≤, rules}
+use Rattle.std.proofs.Common.{refl, lit≤, arith, rules}
 use Rattle.std.proofs.lemmas.Bool.{true≢false, false≢true}
 use Rattle.std.proofs.lemmas.List.Elements.{All-from_recursion}
 use Rattle.at_line.specs.declared.line.Line.{Line}
@@ -16,7 +16,7 @@ places = search rules
 writes_true : AreWritesTrue opening legal_history legal_lines
 writes_true =
     All-from_recursion (λ (line : Line). IsWriteTrue opening legal_history line.what) legal_lines
-    (λ _. (refl, refl), (λ _. (refl, refl), (tt, (tt, (λ _. (refl, refl), (λ wrote. absurd (false≢true wrote), (λ wrote. absurd (false≢true wrote), (λ _. (refl, refl), (tt, (tt, (λ wrote. absurd (false≢true wrote), tt)))))))))))
+    (λ _. (refl, refl), (λ _. (refl, refl), (tt, (tt, (λ _. (refl, refl), (λ wrote. absurd (false≢true wrote), (λ wrote. absurd (false≢true wrote), (λ _. (refl, refl), (tt, (tt, (tt, (tt, (tt, (λ wrote. absurd (false≢true wrote), (tt, (tt, tt))))))))))))))))
 
 reads_true : AreReadsTrue opening legal_history legal_lines
 reads_true =
@@ -30,7 +30,7 @@ reads_true =
             (lit≤ tt, λ _. refl),
             (
               (λ reads. absurd (true≢false reads), tt),
-              ((λ _. (lit≤ tt, refl, refl), tt), ((λ _. (lit≤ tt, refl, refl), tt), ((λ reads. absurd (true≢false reads), tt), ((tt, tt), ((tt, tt), ((λ _. (lit≤ tt, refl, refl), tt), tt)))))),
+              ((λ _. (lit≤ tt, refl, refl), tt), ((λ _. (lit≤ tt, refl, refl), tt), ((λ reads. absurd (true≢false reads), tt), ((tt, tt), ((tt, tt), ((lit≤ tt, tt), ((lit≤ tt, λ ends. absurd (omega (arith, ends))), ((tt, tt), ((λ _. (lit≤ tt, refl, refl), tt), ((lit≤ tt, tt), ((lit≤ tt, λ _. refl), tt))))))))))),
             ),
           ),
         ),
@@ -38,10 +38,10 @@ reads_true =
     )
 
 limits_met : AreLimitsMet example_limits legal_lines
-limits_met = All-from_recursion (λ (line : Line). IsLimitMet example_limits 4 11 line.what) legal_lines (tt, (tt, (tt, (tt, (tt, (tt, (tt, (tt, ((lit≤ tt, lit≤ tt), ((lit≤ tt, lit≤ tt), (tt, tt)))))))))))
+limits_met = All-from_recursion (λ (line : Line). IsLimitMet example_limits 4 16 line.what) legal_lines (tt, (tt, (tt, (tt, (tt, (tt, (tt, (tt, ((lit≤ tt, lit≤ tt), ((lit≤ tt, lit≤ tt), (tt, (tt, ((lit≤ tt, lit≤ tt), (tt, (tt, (tt, tt))))))))))))))))
 
 locked : AreLocked legal_lines
-locked = All-from_recursion (λ (line : Line). IsLocked line.what) legal_lines (refl, (refl, (refl, (refl, (refl, (refl, (refl, (refl, (tt, (tt, (refl, tt)))))))))))
+locked = All-from_recursion (λ (line : Line). IsLocked line.what) legal_lines (refl, (refl, (refl, (refl, (refl, (refl, (refl, (refl, (tt, (tt, (refl, (refl, (tt, (refl, (refl, (refl, tt))))))))))))))))
 
 pub returns-clause-linearized : goal.returns-clause-linearized
 returns-clause-linearized c = record {

@@ -15,4 +15,4 @@ pub returns-clause-worn_far : goal.returns-clause-worn_far
 returns-clause-worn_far c = λ met. let wrong = (met 9 (line_in 0 0 (does 0 gets_five seven)) (lit< tt)).1 in absurd (omega (arith, wrong))
 
 pub returns-clause-path : goal.returns-clause-path
-returns-clause-path c = λ allowed. absurd (cc (allowed 10 (line_in 0 0 (does 0 gets_five seven)) (lit< tt)))
+returns-clause-path c = λ allowed. absurd (cc (allowed 13 (line_in 0 0 (does 0 gets_five seven)) (lit< tt)))

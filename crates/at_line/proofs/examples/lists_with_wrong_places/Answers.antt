@@ -16,5 +16,10 @@ returns-clause-thread c = λ turns.
 
 pub returns-clause-finally : goal.returns-clause-finally
 returns-clause-finally c = λ turns.
-    let wrong = turns 10 (line_in 0 0 (does 0 gets_five seven)) (lit< tt) 5 (line_in 0 0 (does 0 gets_five seven)) (lit< tt) (inr (λ same. omega arith, refl)) in
+    let wrong = turns 13 (line_in 0 0 (does 0 gets_five seven)) (lit< tt) 5 (line_in 0 0 (does 0 gets_five seven)) (lit< tt) (inr (λ same. omega arith, refl)) in
+    absurd (omega (arith, wrong))
+
+pub returns-clause-finally_alone : goal.returns-clause-finally_alone
+returns-clause-finally_alone c = λ turns.
+    let wrong = turns 2 (line_in 0 0 (does 0 gets_five seven)) (lit< tt) 1 (line_in 0 0 (does 0 gets_five seven)) (lit< tt) (inr (λ same. omega arith, refl)) in
     absurd (omega (arith, wrong))

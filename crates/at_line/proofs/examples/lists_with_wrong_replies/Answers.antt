@@ -1,4 +1,4 @@
-use Rattle.std.proofs.Common.{ℕ, refl, ap, inl, arith, lit<}
+use Rattle.std.proofs.Common.{ℕ, refl, ap, inl, inr, arith, lit<}
 use Rattle.std.proofs.lemmas.Bool.{false≢true}
 use Rattle.at_value.specs.declared.reply.Reply.TheVariants as replies
 use Rattle.at_line.specs.declared.line.LineReply as line_reply
@@ -26,3 +26,6 @@ returns-clause-before c = λ all. absurd (cc (((all 5 (line_in 0 0 (does 0 gets_
 
 pub returns-clause-suspended : goal.returns-clause-suspended
 returns-clause-suspended c = λ all. absurd (cc ((all 3 (line_in 0 0 (does 0 gets_five seven)) (lit< tt)).1 (inl refl)))
+
+pub returns-clause-suspended_last : goal.returns-clause-suspended_last
+returns-clause-suspended_last c = λ all. absurd (cc ((all 15 (line_in 0 0 (does 0 gets_five seven)) (lit< tt)).1 (inr refl)))
