@@ -3,3 +3,4 @@ pub mod Executions
 pub mod Threads
 pub mod Runs
 pub mod Laws
+pub mod AnswerExamples

@@ -3,6 +3,7 @@
 
 mod actions;
 mod calls;
+pub mod examples;
 pub mod laws;
 mod next;
 mod operands;

@@ -1,5 +1,5 @@
 //! A thread that executes the statements of a script, and the laws of executions.
-use crate::{Next, ReplyUse, Thread, laws};
+use crate::{Next, ReplyUse, Thread, examples, laws};
 use at_line::{LineOp, LineReply, Local};
 use at_script::{Block, Operand, Script, Stmt, Target, read};
 use at_value::{Bases, Class, Func, HookKind, Name, Obj, Op, Reply, Value};
@@ -227,4 +227,10 @@ fn laws_hold() {
     laws::executions_are_short();
     laws::numbers_have_no_gap();
     laws::own_lines_name_no_limit();
+}
+
+#[test]
+fn answers_are_judged() {
+    examples::lines_in_place_of_operations();
+    examples::replies_of_operations();
 }
