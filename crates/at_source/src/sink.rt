@@ -10,7 +10,8 @@ pub trait Sink {
     /// What was written, where the sink's content is known. Whether it is never changes.
     ghost written: { Self → Option (List ℕ) };
 
-    /// Whether a flush succeeded after the last byte that was taken. It is known of a sink of unknown content too.
+    /// Whether no byte was taken since the last flush that succeeded, or ever, where none did. It is known of a sink of
+    /// unknown content too.
     ghost is_flushed: { Self → Bool };
 
     /// How often the sink failed.
