@@ -1,4 +1,4 @@
--- A list of lines whose section is kept, and lists in which it isn't: another thread wrote its object meanwhile.
+-- Lists of lines whose sections are kept, and lists in which one isn't: another thread wrote its object meanwhile.
 use Rattle.std.specs.Prelude.{ℕ, pos, List, [], ◌∷◌, ◌++◌, None}
 use Rattle.at_value.specs.declared.value.Value.TheVariants as values
 use Rattle.at_value.specs.declared.operation.Op as op
@@ -8,7 +8,7 @@ use Rattle.at_line.specs.declared.line.Line.{Line}
 use Rattle.at_line.specs.declared.line.LineReply.TheVariants as line_replies
 use Rattle.at_line.specs.declared.line.What as what
 use Rattle.at_line.specs.Lines.{main_thread}
-use Rattle.at_line.specs.LineExamples.{begins, ends, does, line_in, makes_class}
+use Rattle.at_line.specs.LineExamples.{begins, begins_both, ends, does, line_in, makes_class}
 
 abbrev pub ends_kept : ℕ → what.What
 ends_kept place = ends place line_replies.Kept
@@ -16,47 +16,133 @@ ends_kept place = ends place line_replies.Kept
 abbrev pub sets : ℕ → op.Op
 sets o = ops.Set o 5 (values.Int (pos 7))
 
+abbrev pub deletes : ℕ → op.Op
+deletes o = ops.Del o 5
+
+abbrev pub sets_class : ℕ → op.Op
+sets_class o = ops.SetClass o 1
+
 abbrev pub shares : op.Op
 shares = ops.Share 1 0
 
--- `main` makes a class and two objects; the first thread has a section over the first object inside one over the second,
--- which never ends and so counts for nothing; the second thread writes the second object
-abbrev pub other_written : List Line
-other_written =
+-- `main` makes a class and two objects
+abbrev pub two_objects : List Line
+two_objects =
     line_in main_thread 1 (does 1 makes_class replies.Done) ∷ line_in main_thread 2 (does 2 (ops.New 1) (replies.Made 0 None))
-    ∷ line_in main_thread 3 (does 3 (ops.New 1) (replies.Made 1 None)) ∷ line_in 1 1 (begins 3 1) ∷ line_in 1 2 (begins 3 0) ∷ line_in 1 3 (ends_kept 4)
-    ∷ line_in 2 1 (does 4 (sets 1) replies.Done) ∷ []
+    ∷ line_in main_thread 3 (does 3 (ops.New 1) (replies.Made 1 None)) ∷ []
+
+abbrev pub two_objects_history : List op.Op
+two_objects_history = makes_class ∷ ops.New 1 ∷ ops.New 1 ∷ []
+
+-- and the second takes the dictionary of the first
+abbrev pub opening_lines : List Line
+opening_lines = two_objects ++ line_in main_thread 4 (does 4 shares replies.Done) ∷ []
+
+abbrev pub opening_history : List op.Op
+opening_history = two_objects_history ++ shares ∷ []
+
+-- and the first, with the second, is written
+abbrev pub written_lines : List Line
+written_lines = opening_lines ++ line_in main_thread 5 (does 5 (sets 0) replies.Done) ∷ []
+
+abbrev pub written_history : List op.Op
+written_history = opening_history ++ sets 0 ∷ []
+
+-- Sections that are kept
+
+-- the first thread has a section over the first object inside one over the second, which never ends and so counts for
+-- nothing; the second thread writes the second object
+abbrev pub other_written : List Line
+other_written = two_objects ++ line_in 1 1 (begins 3 1) ∷ line_in 1 2 (begins 3 0) ∷ line_in 1 3 (ends_kept 4) ∷ line_in 2 1 (does 4 (sets 1) replies.Done) ∷ []
 
 abbrev pub other_written_history : List op.Op
-other_written_history = makes_class ∷ ops.New 1 ∷ ops.New 1 ∷ sets 1 ∷ []
+other_written_history = two_objects_history ++ sets 1 ∷ []
 
 -- the first thread has a section over the second object inside one over the first; the second thread writes the second
 -- object once the inner section has ended, and before the outer one does
 abbrev pub written_once_ended : List Line
 written_once_ended =
-    line_in main_thread 1 (does 1 makes_class replies.Done) ∷ line_in main_thread 2 (does 2 (ops.New 1) (replies.Made 0 None))
-    ∷ line_in main_thread 3 (does 3 (ops.New 1) (replies.Made 1 None)) ∷ line_in 1 1 (begins 3 0) ∷ line_in 1 2 (begins 3 1) ∷ line_in 1 3 (ends_kept 3)
-    ∷ line_in 1 4 (ends_kept 4) ∷ line_in 2 1 (does 4 (sets 1) replies.Done) ∷ []
+    two_objects ++ line_in 1 1 (begins 3 0) ∷ line_in 1 2 (begins 3 1) ∷ line_in 1 3 (ends_kept 3) ∷ line_in 1 4 (ends_kept 4) ∷ line_in 2 1 (does 4 (sets 1) replies.Done) ∷ []
 
--- `main` makes a class and two objects, and the second takes the dictionary of the first
-abbrev pub opening_lines : List Line
-opening_lines =
-    line_in main_thread 1 (does 1 makes_class replies.Done) ∷ line_in main_thread 2 (does 2 (ops.New 1) (replies.Made 0 None))
-    ∷ line_in main_thread 3 (does 3 (ops.New 1) (replies.Made 1 None)) ∷ line_in main_thread 4 (does 4 shares replies.Done) ∷ []
+-- the second thread writes the object at the place at which the section begins, so before it, and another object later
+abbrev pub written_at_begin : List Line
+written_at_begin =
+    two_objects ++ line_in 1 1 (begins 4 0) ∷ line_in 1 2 (ends_kept 5) ∷ line_in 2 1 (does 4 (sets 0) replies.Done) ∷ line_in 2 2 (does 5 (sets 1) replies.Done) ∷ []
+
+abbrev pub written_at_begin_history : List op.Op
+written_at_begin_history = two_objects_history ++ sets 0 ∷ sets 1 ∷ []
+
+-- The second thread writes the object of the inner section of the first, which was suspended and says so: nothing is asked
+-- of it. The next end belongs to the outer section.
+abbrev pub suspended_inside : List Line
+suspended_inside =
+    two_objects ++ line_in 1 1 (begins 3 1) ∷ line_in 1 2 (begins 3 0) ∷ line_in 1 3 (ends 4 (line_replies.Suspended 1)) ∷ line_in 1 4 (ends_kept 4)
+    ∷ line_in 2 1 (does 4 (sets 0) replies.Done) ∷ []
+
+abbrev pub suspended_inside_history : List op.Op
+suspended_inside_history = two_objects_history ++ sets 0 ∷ []
+
+-- Two threads have a section each, and the second writes the object of its own: an end belongs to a begin of its own thread,
+-- and a thread's own writes leave its section kept. The lines of the two stand mixed.
+abbrev pub two_sections : List Line
+two_sections =
+    two_objects ++ line_in 1 1 (begins 3 0) ∷ line_in 2 1 (begins 3 1) ∷ line_in 1 2 (ends_kept 4) ∷ line_in 2 2 (does 4 (sets 1) replies.Done) ∷ line_in 2 3 (ends_kept 4) ∷ []
+
+-- The section is over the second object, and the second thread writes the first, whose dictionary both have. The write
+-- touches the first object and its dictionary, which has the first object's name: so the section over the second is kept,
+-- although what that object reads has changed.
+abbrev pub owner_written : List Line
+owner_written = opening_lines ++ line_in 1 1 (begins 4 1) ∷ line_in 1 2 (ends_kept 5) ∷ line_in 2 1 (does 5 (sets 0) replies.Done) ∷ []
+
+-- the section is over the first object, and the second thread gives the second object a class, which touches no dictionary
+abbrev pub other_class_set : List Line
+other_class_set = opening_lines ++ line_in 1 1 (begins 4 0) ∷ line_in 1 2 (ends_kept 5) ∷ line_in 2 1 (does 5 (sets_class 1) replies.Done) ∷ []
+
+abbrev pub class_set_history : List op.Op
+class_set_history = opening_history ++ sets_class 1 ∷ []
+
+-- Sections that aren't kept, and say that they were
 
 -- the second thread writes the object of the first thread's section
 abbrev pub object_written : List Line
 object_written = opening_lines ++ line_in 1 1 (begins 4 0) ∷ line_in 1 2 (ends_kept 5) ∷ line_in 2 1 (does 5 (sets 0) replies.Done) ∷ []
 
 abbrev pub object_written_history : List op.Op
-object_written_history = makes_class ∷ ops.New 1 ∷ ops.New 1 ∷ shares ∷ sets 0 ∷ []
+object_written_history = opening_history ++ sets 0 ∷ []
 
 -- it writes the other object, which names the dictionary of the first
 abbrev pub dictionary_written : List Line
 dictionary_written = opening_lines ++ line_in 1 1 (begins 4 0) ∷ line_in 1 2 (ends_kept 5) ∷ line_in 2 1 (does 5 (sets 1) replies.Done) ∷ []
 
 abbrev pub dictionary_written_history : List op.Op
-dictionary_written_history = makes_class ∷ ops.New 1 ∷ ops.New 1 ∷ shares ∷ sets 1 ∷ []
+dictionary_written_history = opening_history ++ sets 1 ∷ []
+
+-- it writes the second object of a section over two
+abbrev pub second_written : List Line
+second_written = two_objects ++ line_in 1 1 (begins_both 3 0 1) ∷ line_in 1 2 (ends_kept 4) ∷ line_in 2 1 (does 4 (sets 1) replies.Done) ∷ []
+
+-- it deletes an attribute of the section's object
+abbrev pub object_deleted : List Line
+object_deleted = written_lines ++ line_in 1 1 (begins 5 1) ∷ line_in 1 2 (ends_kept 6) ∷ line_in 2 1 (does 6 (deletes 1) replies.Done) ∷ []
+
+abbrev pub deleted_history : List op.Op
+deleted_history = written_history ++ deletes 1 ∷ []
+
+-- it deletes one of the other object, which names the dictionary of the section's
+abbrev pub dictionary_deleted : List Line
+dictionary_deleted = written_lines ++ line_in 1 1 (begins 5 0) ∷ line_in 1 2 (ends_kept 6) ∷ line_in 2 1 (does 6 (deletes 1) replies.Done) ∷ []
+
+-- it gives the section's object a class
+abbrev pub class_set : List Line
+class_set = opening_lines ++ line_in 1 1 (begins 4 1) ∷ line_in 1 2 (ends_kept 5) ∷ line_in 2 1 (does 5 (sets_class 1) replies.Done) ∷ []
+
+-- it lets the section's object take the dictionary of the other
+abbrev pub dictionary_taken : List Line
+dictionary_taken = two_objects ++ line_in 1 1 (begins 3 1) ∷ line_in 1 2 (ends_kept 4) ∷ line_in 2 1 (does 4 shares replies.Done) ∷ []
+
+-- it lets the other object take the dictionary of the section's
+abbrev pub dictionary_given : List Line
+dictionary_given = two_objects ++ line_in 1 1 (begins 3 0) ∷ line_in 1 2 (ends_kept 4) ∷ line_in 2 1 (does 4 shares replies.Done) ∷ []
 
 -- the end belongs to the inner of two sections, over the object that is written
 abbrev pub inner_written : List Line

@@ -59,6 +59,9 @@ line_in thread number w = record { what = w; number = number; thread = thread }
 abbrev pub begins : ℕ → ℕ → what.What
 begins place o = whats.Did (record { 0 = place }) paths.Locked (line_ops.Begin o None) (line_replies.Of replies.Done)
 
+abbrev pub begins_both : ℕ → ℕ → ℕ → what.What
+begins_both place first second = whats.Did (record { 0 = place }) paths.Locked (line_ops.Begin first (Some second)) (line_replies.Of replies.Done)
+
 abbrev pub ends : ℕ → line_reply.LineReply → what.What
 ends place said = whats.Did (record { 0 = place }) paths.Locked line_ops.Finish said
 

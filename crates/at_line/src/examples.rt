@@ -8,7 +8,7 @@ ghost use Rattle.at_line.specs.Legal.{IsLinearized, AreWritesTrue, AreReadsTrue,
 ghost use Rattle.at_line.specs.Paths.{AreLocked, ArePathsAllowed, is_way_of_line};
 ghost use Rattle.at_line.specs.declared.line.Line.{Line};
 ghost use Rattle.at_line.specs.Kept.{IsKept};
-ghost use Rattle.at_line.specs.KeptExamples.{other_written, other_written_history, written_once_ended, object_written, object_written_history, dictionary_written, dictionary_written_history, inner_written, outer_written};
+ghost use Rattle.at_line.specs.KeptExamples.{opening_history, other_written, other_written_history, written_once_ended, written_at_begin, written_at_begin_history, suspended_inside, suspended_inside_history, two_sections, owner_written, other_class_set, class_set_history, object_written, object_written_history, dictionary_written, dictionary_written_history, second_written, object_deleted, deleted_history, dictionary_deleted, class_set, dictionary_taken, dictionary_given, inner_written, outer_written};
 ghost use Rattle.at_line.specs.LineExamples.{example_limits, legal_lines, legal_history, place_twice, place_left_out, other_object_made, refused_write_done, refused_write_history, read_past_the_end, reply_of_the_place_before, suspended_in_main, suspended_in_finally, place_falls, write_at_a_place_read, thread_before_main, finally_before_thread, finally_before_main, full_too_early, full_past_the_end, worn_too_early, worn_too_far, read_without_locks, ways_there, ways_not_there};
 
 /// A list of lines of `main`, three threads and `finally` that is linearized, a section of a thread suspended among them, and
@@ -68,19 +68,34 @@ pub fn ways_of_today()
     ensures fast { ¬ ArePathsAllowed read_without_locks }
 {}
 
-/// Lists with sections that are kept, while another thread writes another object, or an object whose section has ended.
+/// Lists with sections that are kept, while another thread writes another object, or an object whose section has ended, or
+/// begins at the place of the write, or was suspended; while a thread writes the object of its own section; and while a
+/// write touches no row of the section, although it changes what the object reads.
 pub fn kept_examples()
-    ensures histories { IsHistory other_written other_written_history × IsHistory written_once_ended other_written_history }
+    ensures histories { IsHistory other_written other_written_history × IsHistory written_once_ended other_written_history × IsHistory written_at_begin written_at_begin_history × IsHistory suspended_inside suspended_inside_history × IsHistory two_sections other_written_history × IsHistory owner_written object_written_history × IsHistory other_class_set class_set_history }
     ensures other { IsKept opening other_written_history other_written }
     ensures ended { IsKept opening other_written_history written_once_ended }
+    ensures at_begin { IsKept opening written_at_begin_history written_at_begin }
+    ensures suspended { IsKept opening suspended_inside_history suspended_inside }
+    ensures threads { IsKept opening other_written_history two_sections }
+    ensures owner { IsKept opening object_written_history owner_written }
+    ensures class { IsKept opening class_set_history other_class_set }
 {}
 
-/// Lists with a section that replied that it was kept, while another thread wrote its object: the object itself, the
-/// dictionary that it names, the object of the section that an end belongs to among two that nest.
+/// Lists with a section that replied that it was kept, while another thread wrote its object: by each operation that touches
+/// rows, the object itself or the dictionary that it names, the second object of two, the object of the section that an end
+/// belongs to among two that nest.
 pub fn lists_with_broken_sections()
     ensures histories { IsHistory object_written object_written_history × IsHistory dictionary_written dictionary_written_history × IsHistory inner_written dictionary_written_history × IsHistory outer_written object_written_history }
+    ensures histories_more { IsHistory second_written other_written_history × IsHistory object_deleted deleted_history × IsHistory dictionary_deleted deleted_history × IsHistory class_set class_set_history × IsHistory dictionary_taken opening_history × IsHistory dictionary_given opening_history }
     ensures object { ¬ IsKept opening object_written_history object_written }
     ensures dictionary { ¬ IsKept opening dictionary_written_history dictionary_written }
+    ensures second { ¬ IsKept opening other_written_history second_written }
+    ensures deleted { ¬ IsKept opening deleted_history object_deleted }
+    ensures dictionary_deleted { ¬ IsKept opening deleted_history dictionary_deleted }
+    ensures class { ¬ IsKept opening class_set_history class_set }
+    ensures taken { ¬ IsKept opening opening_history dictionary_taken }
+    ensures given { ¬ IsKept opening opening_history dictionary_given }
     ensures inner { ¬ IsKept opening dictionary_written_history inner_written }
     ensures outer { ¬ IsKept opening object_written_history outer_written }
 {}
