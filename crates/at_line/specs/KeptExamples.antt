@@ -6,7 +6,9 @@ use Rattle.at_value.specs.declared.operation.Op.TheVariants as ops
 use Rattle.at_value.specs.declared.reply.Reply.TheVariants as replies
 use Rattle.at_line.specs.declared.line.Line.{Line}
 use Rattle.at_line.specs.declared.line.LineReply.TheVariants as line_replies
+use Rattle.at_line.specs.declared.line.Local.TheVariants as locals
 use Rattle.at_line.specs.declared.line.What as what
+use Rattle.at_line.specs.declared.line.What.TheVariants as whats
 use Rattle.at_line.specs.Lines.{main_thread}
 use Rattle.at_line.specs.LineExamples.{begins, begins_both, ends, does, line_in, makes_class}
 
@@ -24,6 +26,23 @@ sets_class o = ops.SetClass o 1
 
 abbrev pub shares : op.Op
 shares = ops.Share 1 0
+
+-- the first object as a value of the second
+abbrev pub puts : op.Op
+puts = ops.Set 1 5 (values.Obj 0)
+
+-- writes of classes: a subclass of class 1, and class 1 itself
+abbrev pub makes_subclass : op.Op
+makes_subclass = ops.NewClass 2 (1 ∷ [])
+
+abbrev pub sets_type : op.Op
+sets_type = ops.TypeSet 1 5 (values.Obj 0)
+
+abbrev pub deletes_type : op.Op
+deletes_type = ops.TypeDel 1 5
+
+abbrev pub sets_bases : op.Op
+sets_bases = ops.SetBases 1 (0 ∷ [])
 
 -- `main` makes a class and two objects
 abbrev pub two_objects : List Line
@@ -101,6 +120,27 @@ other_class_set = opening_lines ++ line_in 1 1 (begins 4 0) ∷ line_in 1 2 (end
 abbrev pub class_set_history : List op.Op
 class_set_history = opening_history ++ sets_class 1 ∷ []
 
+-- the section is over both objects, and the second thread does the writes that touch no rows, on classes whose numbers the
+-- objects have
+abbrev pub classes_written : List Line
+classes_written =
+    two_objects ++ line_in 1 1 (begins_both 3 0 1) ∷ line_in 1 2 (ends_kept 8) ∷ line_in 2 1 (does 4 makes_subclass replies.Done) ∷ line_in 2 2 (does 5 sets_type replies.Done)
+    ∷ line_in 2 3 (does 6 deletes_type replies.Done) ∷ line_in 2 4 (does 7 sets_bases replies.Done) ∷ line_in 2 5 (does 8 (ops.New 1) (replies.Made 2 None)) ∷ []
+
+abbrev pub classes_written_history : List op.Op
+classes_written_history = two_objects_history ++ makes_subclass ∷ sets_type ∷ deletes_type ∷ sets_bases ∷ ops.New 1 ∷ []
+
+-- the section is over the first object, which the second thread puts into the second as a value
+abbrev pub value_written : List Line
+value_written = two_objects ++ line_in 1 1 (begins 3 0) ∷ line_in 1 2 (ends_kept 4) ∷ line_in 2 1 (does 4 puts replies.Done) ∷ []
+
+abbrev pub value_written_history : List op.Op
+value_written_history = two_objects_history ++ puts ∷ []
+
+-- an end to which no begin belongs counts for nothing
+abbrev pub end_alone : List Line
+end_alone = two_objects ++ line_in 1 1 (ends_kept 4) ∷ line_in 2 1 (does 4 (sets 1) replies.Done) ∷ []
+
 -- Sections that aren't kept, and say that they were
 
 -- the second thread writes the object of the first thread's section
@@ -120,6 +160,22 @@ dictionary_written_history = opening_history ++ sets 1 ∷ []
 -- it writes the second object of a section over two
 abbrev pub second_written : List Line
 second_written = two_objects ++ line_in 1 1 (begins_both 3 0 1) ∷ line_in 1 2 (ends_kept 4) ∷ line_in 2 1 (does 4 (sets 1) replies.Done) ∷ []
+
+-- between the begin and the end the first thread reads, and says a local word
+abbrev pub written_past_other_lines : List Line
+written_past_other_lines =
+    two_objects ++ line_in 1 1 (begins 3 1) ∷ line_in 1 2 (does 3 (ops.Get 1 5) replies.NoAttr) ∷ line_in 1 3 (whats.Local locals.Kind) ∷ line_in 1 4 (ends_kept 4)
+    ∷ line_in 2 1 (does 4 (sets 1) replies.Done) ∷ []
+
+-- It writes a third object, which has taken the dictionary since the section began, not from the section's object but from
+-- the second. The rows of a write are those at its own place.
+abbrev pub named_meanwhile : List Line
+named_meanwhile =
+    opening_lines ++ line_in main_thread 5 (does 5 (ops.New 1) (replies.Made 2 None)) ∷ line_in 1 1 (begins 5 0) ∷ line_in 1 2 (ends_kept 7)
+    ∷ line_in 2 1 (does 6 (ops.Share 2 1) replies.Done) ∷ line_in 2 2 (does 7 (sets 2) replies.Done) ∷ []
+
+abbrev pub named_meanwhile_history : List op.Op
+named_meanwhile_history = opening_history ++ ops.New 1 ∷ ops.Share 2 1 ∷ sets 2 ∷ []
 
 -- it deletes an attribute of the section's object
 abbrev pub object_deleted : List Line

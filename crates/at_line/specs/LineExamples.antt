@@ -18,7 +18,7 @@ use Rattle.at_line.specs.declared.line.LineReply.TheVariants as line_replies
 use Rattle.at_line.specs.declared.line.Local.TheVariants as locals
 use Rattle.at_line.specs.declared.line.What as what
 use Rattle.at_line.specs.declared.line.What.TheVariants as whats
-use Rattle.at_line.specs.Lines.{main_thread, finally_thread}
+use Rattle.at_line.specs.Lines.{main_thread, most_threads, finally_thread}
 
 abbrev pub example_limits : Limits
 example_limits = record { place_max = 4; head_max = 6; tags = 3 }
@@ -66,8 +66,8 @@ abbrev pub ends : ℕ → line_reply.LineReply → what.What
 ends place said = whats.Did (record { 0 = place }) paths.Locked line_ops.Finish said
 
 -- `main` makes a class and an object, and has a section over it that is kept; two threads write and read the object, and
--- the second names both limits; a third has a section over it that is suspended, and names the highest sequence that
--- sixteen lines can have brought about; `finally` reads the object and has a section over it that is kept.
+-- the second names both limits; the last thread that there can be has a section over it that is suspended, and names the
+-- highest sequence that sixteen lines may name; `finally` reads the object and has a section over it that is kept.
 abbrev pub legal_lines : List Line
 legal_lines =
     line_in main_thread 1 (does 1 makes_class replies.Done)
@@ -80,9 +80,9 @@ legal_lines =
     ∷ line_in 2 2 (does 4 sets_six replies.Done)
     ∷ line_in 2 3 (whats.Local (locals.Full 4))
     ∷ line_in 2 4 (whats.Local (locals.Worn 6))
-    ∷ line_in 3 1 (begins 3 0)
-    ∷ line_in 3 2 (ends 4 (line_replies.Suspended 1))
-    ∷ line_in 3 3 (whats.Local (locals.Worn 64))
+    ∷ line_in most_threads 1 (begins 3 0)
+    ∷ line_in most_threads 2 (ends 4 (line_replies.Suspended 1))
+    ∷ line_in most_threads 3 (whats.Local (locals.Worn 64))
     ∷ line_in finally_thread 1 (does 4 gets_five seven)
     ∷ line_in finally_thread 2 (begins 4 0)
     ∷ line_in finally_thread 3 (ends 4 line_replies.Kept)
@@ -119,6 +119,13 @@ refused_write_history = set legal_history 2 sets_no_object
 abbrev pub read_past_the_end : List Line
 read_past_the_end = set legal_lines 5 (line_in 1 2 (does 5 gets_six eight))
 
+-- a section that begins past the last write, and one that ends there
+abbrev pub begin_past_the_end : List Line
+begin_past_the_end = set legal_lines 14 (line_in finally_thread 2 (begins 5 0))
+
+abbrev pub end_past_the_end : List Line
+end_past_the_end = set legal_lines 15 (line_in finally_thread 3 (ends 5 line_replies.Kept))
+
 -- a read with the reply of the place before
 abbrev pub reply_of_the_place_before : List Line
 reply_of_the_place_before = set legal_lines 5 (line_in 1 2 (does 4 gets_six replies.NoAttr))
@@ -142,6 +149,10 @@ write_at_a_place_read = set legal_lines 6 (line_in 2 1 (does 4 gets_five seven))
 -- a thread reads at a place below the last of `main`
 abbrev pub thread_before_main : List Line
 thread_before_main = set legal_lines 6 (line_in 2 1 (does 1 gets_five replies.NoAttr))
+
+-- the last of the threads begins a section there
+abbrev pub last_thread_before_main : List Line
+last_thread_before_main = set legal_lines 10 (line_in most_threads 1 (begins 1 0))
 
 -- `finally` reads at a place below the last of a thread
 abbrev pub finally_before_thread : List Line

@@ -8,8 +8,8 @@ ghost use Rattle.at_line.specs.Legal.{IsLinearized, AreWritesTrue, AreReadsTrue,
 ghost use Rattle.at_line.specs.Paths.{AreLocked, ArePathsAllowed, is_way_of_line};
 ghost use Rattle.at_line.specs.declared.line.Line.{Line};
 ghost use Rattle.at_line.specs.Kept.{IsKept};
-ghost use Rattle.at_line.specs.KeptExamples.{opening_history, other_written, other_written_history, written_once_ended, written_at_begin, written_at_begin_history, suspended_inside, suspended_inside_history, two_sections, owner_written, other_class_set, class_set_history, object_written, object_written_history, dictionary_written, dictionary_written_history, second_written, object_deleted, deleted_history, dictionary_deleted, class_set, dictionary_taken, dictionary_given, inner_written, outer_written};
-ghost use Rattle.at_line.specs.LineExamples.{example_limits, legal_lines, legal_history, place_twice, place_left_out, other_object_made, refused_write_done, refused_write_history, read_past_the_end, reply_of_the_place_before, suspended_in_main, suspended_in_finally, place_falls, write_at_a_place_read, thread_before_main, finally_before_thread, finally_before_main, full_too_early, full_past_the_end, worn_too_early, worn_too_far, read_without_locks, ways_there, ways_not_there};
+ghost use Rattle.at_line.specs.KeptExamples.{opening_history, other_written, other_written_history, written_once_ended, written_at_begin, written_at_begin_history, suspended_inside, suspended_inside_history, two_sections, owner_written, other_class_set, class_set_history, classes_written, classes_written_history, value_written, value_written_history, end_alone, object_written, object_written_history, dictionary_written, dictionary_written_history, second_written, written_past_other_lines, named_meanwhile, named_meanwhile_history, object_deleted, deleted_history, dictionary_deleted, class_set, dictionary_taken, dictionary_given, inner_written, outer_written};
+ghost use Rattle.at_line.specs.LineExamples.{example_limits, legal_lines, legal_history, place_twice, place_left_out, other_object_made, refused_write_done, refused_write_history, read_past_the_end, begin_past_the_end, end_past_the_end, reply_of_the_place_before, suspended_in_main, suspended_in_finally, place_falls, write_at_a_place_read, thread_before_main, last_thread_before_main, finally_before_thread, finally_before_main, full_too_early, full_past_the_end, worn_too_early, worn_too_far, read_without_locks, ways_there, ways_not_there};
 
 /// A list of lines of `main`, three threads and `finally` that is linearized, a section of a thread suspended among them, and
 /// each operation the locked way.
@@ -24,13 +24,15 @@ pub fn lists_without_history()
     ensures left_out { (history : List op.Op) → ¬ IsHistory place_left_out history }
 {}
 
-/// Lists with a history, in which a reply is wrong: of a write, of a read, or of the end of a section of `main` or of
-/// `finally`.
+/// Lists with a history, in which a reply or the place of a read is wrong: of a write, of a read, of the begin or of the end of
+/// a section, that of `main` or of `finally` among them.
 pub fn lists_with_wrong_replies()
-    ensures histories { IsHistory other_object_made legal_history × IsHistory refused_write_done refused_write_history × IsHistory read_past_the_end legal_history × IsHistory reply_of_the_place_before legal_history × IsHistory suspended_in_main legal_history × IsHistory suspended_in_finally legal_history }
+    ensures histories { IsHistory other_object_made legal_history × IsHistory refused_write_done refused_write_history × IsHistory read_past_the_end legal_history × IsHistory begin_past_the_end legal_history × IsHistory end_past_the_end legal_history × IsHistory reply_of_the_place_before legal_history × IsHistory suspended_in_main legal_history × IsHistory suspended_in_finally legal_history }
     ensures made { ¬ AreWritesTrue opening legal_history other_object_made }
     ensures done { ¬ AreWritesTrue opening refused_write_history refused_write_done }
     ensures past { ¬ AreReadsTrue opening legal_history read_past_the_end }
+    ensures begin_past { ¬ AreReadsTrue opening legal_history begin_past_the_end }
+    ensures end_past { ¬ AreReadsTrue opening legal_history end_past_the_end }
     ensures before { ¬ AreReadsTrue opening legal_history reply_of_the_place_before }
     ensures suspended { ¬ AreReadsTrue opening legal_history suspended_in_main }
     ensures suspended_last { ¬ AreReadsTrue opening legal_history suspended_in_finally }
@@ -41,6 +43,7 @@ pub fn lists_with_wrong_places()
     ensures falls { ¬ AreRising place_falls }
     ensures read_before { ¬ AreRising write_at_a_place_read }
     ensures thread { ¬ AreInTurn thread_before_main }
+    ensures last_thread { ¬ AreInTurn last_thread_before_main }
     ensures finally { ¬ AreInTurn finally_before_thread }
     ensures finally_alone { ¬ AreInTurn finally_before_main }
 {}
@@ -69,10 +72,11 @@ pub fn ways_of_today()
 {}
 
 /// Lists with sections that are kept, while another thread writes another object, or an object whose section has ended, or
-/// begins at the place of the write, or was suspended; while a thread writes the object of its own section; and while a
-/// write touches no row of the section, although it changes what the object reads.
+/// begins at the place of the write, or was suspended; while a thread writes the object of its own section; and while the
+/// writes touch no row of the section, although one changes what the object reads.
 pub fn kept_examples()
     ensures histories { IsHistory other_written other_written_history × IsHistory written_once_ended other_written_history × IsHistory written_at_begin written_at_begin_history × IsHistory suspended_inside suspended_inside_history × IsHistory two_sections other_written_history × IsHistory owner_written object_written_history × IsHistory other_class_set class_set_history }
+    ensures histories_more { IsHistory classes_written classes_written_history × IsHistory value_written value_written_history × IsHistory end_alone other_written_history }
     ensures other { IsKept opening other_written_history other_written }
     ensures ended { IsKept opening other_written_history written_once_ended }
     ensures at_begin { IsKept opening written_at_begin_history written_at_begin }
@@ -80,6 +84,9 @@ pub fn kept_examples()
     ensures threads { IsKept opening other_written_history two_sections }
     ensures owner { IsKept opening object_written_history owner_written }
     ensures class { IsKept opening class_set_history other_class_set }
+    ensures classes { IsKept opening classes_written_history classes_written }
+    ensures value { IsKept opening value_written_history value_written }
+    ensures alone { IsKept opening other_written_history end_alone }
 {}
 
 /// Lists with a section that replied that it was kept, while another thread wrote its object: by each operation that touches
@@ -87,10 +94,12 @@ pub fn kept_examples()
 /// belongs to among two that nest.
 pub fn lists_with_broken_sections()
     ensures histories { IsHistory object_written object_written_history × IsHistory dictionary_written dictionary_written_history × IsHistory inner_written dictionary_written_history × IsHistory outer_written object_written_history }
-    ensures histories_more { IsHistory second_written other_written_history × IsHistory object_deleted deleted_history × IsHistory dictionary_deleted deleted_history × IsHistory class_set class_set_history × IsHistory dictionary_taken opening_history × IsHistory dictionary_given opening_history }
+    ensures histories_more { IsHistory second_written other_written_history × IsHistory written_past_other_lines other_written_history × IsHistory named_meanwhile named_meanwhile_history × IsHistory object_deleted deleted_history × IsHistory dictionary_deleted deleted_history × IsHistory class_set class_set_history × IsHistory dictionary_taken opening_history × IsHistory dictionary_given opening_history }
     ensures object { ¬ IsKept opening object_written_history object_written }
     ensures dictionary { ¬ IsKept opening dictionary_written_history dictionary_written }
     ensures second { ¬ IsKept opening other_written_history second_written }
+    ensures past_other_lines { ¬ IsKept opening other_written_history written_past_other_lines }
+    ensures named_meanwhile { ¬ IsKept opening named_meanwhile_history named_meanwhile }
     ensures deleted { ¬ IsKept opening deleted_history object_deleted }
     ensures dictionary_deleted { ¬ IsKept opening deleted_history dictionary_deleted }
     ensures class { ¬ IsKept opening class_set_history class_set }

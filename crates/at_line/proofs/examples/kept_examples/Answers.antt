@@ -5,7 +5,7 @@ use Rattle.at_model.specs.World.{opening}
 use Rattle.at_value.specs.declared.operation.Op as op
 use Rattle.at_line.specs.declared.line.Line.{Line}
 use Rattle.at_line.specs.Kept.{LeavesAlone, IsKeptLine, writes_beside}
-use Rattle.at_line.specs.KeptExamples.{other_written, other_written_history, written_once_ended, written_at_begin, written_at_begin_history, suspended_inside, suspended_inside_history, two_sections, owner_written, object_written_history, other_class_set, class_set_history}
+use Rattle.at_line.specs.KeptExamples.{other_written, other_written_history, written_once_ended, written_at_begin, written_at_begin_history, suspended_inside, suspended_inside_history, two_sections, owner_written, object_written_history, other_class_set, class_set_history, classes_written, classes_written_history, value_written, value_written_history, end_alone}
 use Rattle.at_line.proofs.Each.{each_after-from_recursion}
 use Rattle.at_line.proofs.examples.kept_examples.Goals as goal
 
@@ -17,6 +17,9 @@ only_twice : (a o : ℕ) → Contains (a ∷ a ∷ []) o → o ≡ a
 only_twice a o (zero, within, is) = sym is
 only_twice a o (suc zero, within, is) = sym is
 only_twice a o (suc (suc k), within, is) = absurd (omega arith)
+
+none : (o : ℕ) → Contains [] o → ⊥
+none o (k, within, is) = absurd (omega arith)
 
 -- the writes of the other threads leave an object alone from a place up to another
 abbrev Alone : List op.Op → List Line → ℕ → ℕ → ℕ → ℕ → Type 0
@@ -103,3 +106,28 @@ class_alone =
 pub returns-clause-class : goal.returns-clause-class
 returns-clause-class c = each_after-from_recursion (IsKeptLine opening class_set_history other_class_set) other_class_set
     (tt, (tt, (tt, (tt, (tt, (class_alone, (tt, tt)))))))
+
+pub returns-clause-histories_more : goal.returns-clause-histories_more
+returns-clause-histories_more c = (search rules, search rules, search rules)
+
+-- writes of classes, and the making of an object, touch no rows
+both_alone : All (LeavesAlone opening classes_written_history 3 8 (0 ∷ 1 ∷ [])) (writes_beside 1 classes_written)
+both_alone =
+    All-from_recursion (LeavesAlone opening classes_written_history 3 8 (0 ∷ 1 ∷ [])) (writes_beside 1 classes_written)
+    (λ past. absurd (omega arith), (λ past. absurd (omega arith), (λ past. absurd (omega arith), (λ past before o has touched. absurd (none o touched), (λ past before o has touched. absurd (none o touched), (λ past before o has touched. absurd (none o touched), (λ past before o has touched. absurd (none o touched), (λ past before o has touched. absurd (none o touched), tt))))))))
+
+pub returns-clause-classes : goal.returns-clause-classes
+returns-clause-classes c = each_after-from_recursion (IsKeptLine opening classes_written_history classes_written) classes_written
+    (tt, (tt, (tt, (tt, (both_alone, (tt, (tt, (tt, (tt, (tt, tt))))))))))
+
+-- the write touches the second object, and not the first, which is the value
+value_alone : Alone value_written_history value_written 1 3 4 0
+value_alone =
+    All-from_recursion (LeavesAlone opening value_written_history 3 4 (0 ∷ [])) (writes_beside 1 value_written)
+    (λ past. absurd (omega arith), (λ past. absurd (omega arith), (λ past. absurd (omega arith), (λ past before o has touched. absurd (omega (arith, only 0 o has, only_twice 1 o touched)), tt))))
+
+pub returns-clause-value : goal.returns-clause-value
+returns-clause-value c = each_after-from_recursion (IsKeptLine opening value_written_history value_written) value_written (tt, (tt, (tt, (tt, (value_alone, (tt, tt))))))
+
+pub returns-clause-alone : goal.returns-clause-alone
+returns-clause-alone c = each_after-from_recursion (IsKeptLine opening other_written_history end_alone) end_alone (tt, (tt, (tt, (tt, (tt, tt)))))

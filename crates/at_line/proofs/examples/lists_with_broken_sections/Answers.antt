@@ -19,7 +19,7 @@ pub returns-clause-outer : goal.returns-clause-outer
 returns-clause-outer c = λ kept. kept 7 (line_in 1 4 (ends_kept 5)) refl 4 (0, makes_class) (lit< tt) (lit< tt) (lit≤ tt) 0 (0, lit< tt, refl) (0, lit< tt, refl)
 
 pub returns-clause-histories_more : goal.returns-clause-histories_more
-returns-clause-histories_more c = (search rules, search rules, search rules, search rules, search rules, search rules)
+returns-clause-histories_more c = (search rules, search rules, search rules, search rules, search rules, search rules, search rules, search rules)
 
 pub returns-clause-second : goal.returns-clause-second
 returns-clause-second c = λ kept. kept 4 (line_in 1 2 (ends_kept 4)) refl 3 (0, makes_class) (lit< tt) (lit< tt) (lit≤ tt) 1 (1, lit< tt, refl) (0, lit< tt, refl)
@@ -38,3 +38,9 @@ returns-clause-taken c = λ kept. kept 4 (line_in 1 2 (ends_kept 4)) refl 3 (0, 
 
 pub returns-clause-given : goal.returns-clause-given
 returns-clause-given c = λ kept. kept 4 (line_in 1 2 (ends_kept 4)) refl 3 (0, makes_class) (lit< tt) (lit< tt) (lit≤ tt) 0 (0, lit< tt, refl) (1, lit< tt, refl)
+
+pub returns-clause-past_other_lines : goal.returns-clause-past_other_lines
+returns-clause-past_other_lines c = λ kept. kept 6 (line_in 1 4 (ends_kept 4)) refl 3 (0, makes_class) (lit< tt) (lit< tt) (lit≤ tt) 1 (0, lit< tt, refl) (0, lit< tt, refl)
+
+pub returns-clause-named_meanwhile : goal.returns-clause-named_meanwhile
+returns-clause-named_meanwhile c = λ kept. kept 6 (line_in 1 2 (ends_kept 7)) refl 6 (0, makes_class) (lit< tt) (lit< tt) (lit≤ tt) 0 (0, lit< tt, refl) (1, lit< tt, refl)

@@ -23,3 +23,8 @@ pub returns-clause-finally_alone : goal.returns-clause-finally_alone
 returns-clause-finally_alone c = λ turns.
     let wrong = turns 2 (line_in 0 0 (does 0 gets_five seven)) (lit< tt) 1 (line_in 0 0 (does 0 gets_five seven)) (lit< tt) (inr (λ same. omega arith, refl)) in
     absurd (omega (arith, wrong))
+
+pub returns-clause-last_thread : goal.returns-clause-last_thread
+returns-clause-last_thread c = λ turns.
+    let wrong = turns 10 (line_in 0 0 (does 0 gets_five seven)) (lit< tt) 1 (line_in 0 0 (does 0 gets_five seven)) (lit< tt) (inl (refl, lit< tt, lit< tt)) in
+    absurd (omega (arith, wrong))

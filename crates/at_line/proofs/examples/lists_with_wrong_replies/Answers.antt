@@ -29,3 +29,9 @@ returns-clause-suspended c = λ all. absurd (cc ((all 3 (line_in 0 0 (does 0 get
 
 pub returns-clause-suspended_last : goal.returns-clause-suspended_last
 returns-clause-suspended_last c = λ all. absurd (cc ((all 15 (line_in 0 0 (does 0 gets_five seven)) (lit< tt)).1 (inr refl)))
+
+pub returns-clause-begin_past : goal.returns-clause-begin_past
+returns-clause-begin_past c = λ all. let wrong = (all 14 (line_in 0 0 (does 0 gets_five seven)) (lit< tt)).0 in absurd (omega (arith, wrong))
+
+pub returns-clause-end_past : goal.returns-clause-end_past
+returns-clause-end_past c = λ all. let wrong = (all 15 (line_in 0 0 (does 0 gets_five seven)) (lit< tt)).0 in absurd (omega (arith, wrong))
