@@ -27,7 +27,14 @@ pub fn lists_without_history()
 /// Lists with a history, in which a reply or the place of a read is wrong: of a write, of a read, of the begin or of the end of
 /// a section, that of `main` or of `finally` among them.
 pub fn lists_with_wrong_replies()
-    ensures histories { IsHistory other_object_made legal_history × IsHistory refused_write_done refused_write_history × IsHistory read_past_the_end legal_history × IsHistory begin_past_the_end legal_history × IsHistory end_past_the_end legal_history × IsHistory reply_of_the_place_before legal_history × IsHistory suspended_in_main legal_history × IsHistory suspended_in_finally legal_history }
+    ensures histories { IsHistory other_object_made legal_history
+        × IsHistory refused_write_done refused_write_history
+        × IsHistory read_past_the_end legal_history
+        × IsHistory begin_past_the_end legal_history
+        × IsHistory end_past_the_end legal_history
+        × IsHistory reply_of_the_place_before legal_history
+        × IsHistory suspended_in_main legal_history
+        × IsHistory suspended_in_finally legal_history }
     ensures made { ¬ AreWritesTrue opening legal_history other_object_made }
     ensures done { ¬ AreWritesTrue opening refused_write_history refused_write_done }
     ensures past { ¬ AreReadsTrue opening legal_history read_past_the_end }
@@ -75,8 +82,16 @@ pub fn ways_of_today()
 /// begins at the place of the write, or was suspended; while a thread writes the object of its own section; and while the
 /// writes touch no row of the section, although one changes what the object reads.
 pub fn kept_examples()
-    ensures histories { IsHistory other_written other_written_history × IsHistory written_once_ended other_written_history × IsHistory written_at_begin written_at_begin_history × IsHistory suspended_inside suspended_inside_history × IsHistory two_sections other_written_history × IsHistory owner_written object_written_history × IsHistory other_class_set class_set_history }
-    ensures histories_more { IsHistory classes_written classes_written_history × IsHistory value_written value_written_history × IsHistory end_alone other_written_history }
+    ensures histories { IsHistory other_written other_written_history
+        × IsHistory written_once_ended other_written_history
+        × IsHistory written_at_begin written_at_begin_history
+        × IsHistory suspended_inside suspended_inside_history
+        × IsHistory two_sections other_written_history
+        × IsHistory owner_written object_written_history
+        × IsHistory other_class_set class_set_history }
+    ensures histories_more { IsHistory classes_written classes_written_history
+        × IsHistory value_written value_written_history
+        × IsHistory end_alone other_written_history }
     ensures other { IsKept opening other_written_history other_written }
     ensures ended { IsKept opening other_written_history written_once_ended }
     ensures at_begin { IsKept opening written_at_begin_history written_at_begin }
@@ -93,8 +108,18 @@ pub fn kept_examples()
 /// rows, the object itself or the dictionary that it names, the second object of two, the object of the section that an end
 /// belongs to among two that nest.
 pub fn lists_with_broken_sections()
-    ensures histories { IsHistory object_written object_written_history × IsHistory dictionary_written dictionary_written_history × IsHistory inner_written dictionary_written_history × IsHistory outer_written object_written_history }
-    ensures histories_more { IsHistory second_written other_written_history × IsHistory written_past_other_lines other_written_history × IsHistory named_meanwhile named_meanwhile_history × IsHistory object_deleted deleted_history × IsHistory dictionary_deleted deleted_history × IsHistory class_set class_set_history × IsHistory dictionary_taken opening_history × IsHistory dictionary_given opening_history }
+    ensures histories { IsHistory object_written object_written_history
+        × IsHistory dictionary_written dictionary_written_history
+        × IsHistory inner_written dictionary_written_history
+        × IsHistory outer_written object_written_history }
+    ensures histories_more { IsHistory second_written other_written_history
+        × IsHistory written_past_other_lines other_written_history
+        × IsHistory named_meanwhile named_meanwhile_history
+        × IsHistory object_deleted deleted_history
+        × IsHistory dictionary_deleted deleted_history
+        × IsHistory class_set class_set_history
+        × IsHistory dictionary_taken opening_history
+        × IsHistory dictionary_given opening_history }
     ensures object { ¬ IsKept opening object_written_history object_written }
     ensures dictionary { ¬ IsKept opening dictionary_written_history dictionary_written }
     ensures second { ¬ IsKept opening other_written_history second_written }
