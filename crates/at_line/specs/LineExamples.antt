@@ -178,7 +178,7 @@ worn_too_early = set legal_lines 9 (line_in 2 4 (whats.Local (locals.Worn 4)))
 abbrev pub worn_too_far : List Line
 worn_too_far = set legal_lines 9 (line_in 2 4 (whats.Local (locals.Worn 65)))
 
--- a read that went without a lock
+-- a read that went the fast way
 abbrev pub read_without_locks : List Line
 read_without_locks = set legal_lines 13 (line_in finally_thread 1 (does_by paths.Fast 4 gets_five seven))
 

@@ -11,8 +11,8 @@ ghost use Rattle.at_line.specs.Kept.{IsKept};
 ghost use Rattle.at_line.specs.KeptExamples.{opening_history, other_written, other_written_history, written_once_ended, written_at_begin, written_at_begin_history, suspended_inside, suspended_inside_history, two_sections, owner_written, other_class_set, class_set_history, classes_written, classes_written_history, value_written, value_written_history, end_alone, object_written, object_written_history, dictionary_written, dictionary_written_history, second_written, written_past_other_lines, named_meanwhile, named_meanwhile_history, object_deleted, deleted_history, dictionary_deleted, class_set, dictionary_taken, dictionary_given, inner_written, outer_written};
 ghost use Rattle.at_line.specs.LineExamples.{example_limits, legal_lines, legal_history, place_twice, place_left_out, other_object_made, refused_write_done, refused_write_history, read_past_the_end, begin_past_the_end, end_past_the_end, reply_of_the_place_before, suspended_in_main, suspended_in_finally, place_falls, write_at_a_place_read, thread_before_main, last_thread_before_main, finally_before_thread, finally_before_main, full_too_early, full_past_the_end, worn_too_early, worn_too_far, read_without_locks, ways_there, ways_not_there};
 
-/// A list of lines of `main`, three threads and `finally` that is linearized, a section of a thread suspended among them, and
-/// each operation the locked way.
+/// A list of lines of `main`, three threads and `finally` that is linearized, whose operations all went the locked way. A
+/// section of a thread was suspended.
 pub fn legal_example()
     ensures linearized { IsLinearized opening example_limits legal_history legal_lines }
     ensures locked { AreLocked legal_lines }
@@ -24,8 +24,8 @@ pub fn lists_without_history()
     ensures left_out { (history : List op.Op) → ¬ IsHistory place_left_out history }
 {}
 
-/// Lists with a history, in which a reply or the place of a read is wrong: of a write, of a read, of the begin or of the end of
-/// a section, that of `main` or of `finally` among them.
+/// Lists with a history, in which a write has a wrong reply, a read a wrong reply or place, the begin or the end of a section
+/// a wrong place, or the end of a section of `main` or `finally` a wrong reply.
 pub fn lists_with_wrong_replies()
     ensures histories { IsHistory other_object_made legal_history
         × IsHistory refused_write_done refused_write_history
@@ -79,8 +79,8 @@ pub fn ways_of_today()
 {}
 
 /// Lists with sections that are kept, while another thread writes another object, or an object whose section has ended, or
-/// begins at the place of the write, or was suspended; while a thread writes the object of its own section; and while the
-/// writes touch no row of the section, although one changes what the object reads.
+/// begins at the place of the write, or was suspended; while a thread writes the object of its own section; and while no
+/// write touches a row of the section's objects, although one changes what an object of it reads.
 pub fn kept_examples()
     ensures histories { IsHistory other_written other_written_history
         × IsHistory written_once_ended other_written_history
