@@ -18,7 +18,7 @@ use Rattle.at_value.specs.declared.value.Value.{Value}
 use Rattle.at_value.specs.Pairs.{AreAbove, IsRising}
 use Rattle.at_value.specs.Widths as widths
 use Rattle.at_text.specs.Values.{text_at}
-use Rattle.at_text.specs.Order.{name_cmp, IsUpto, key_at, keyed, pair_of, AreKeys, AreGiven}
+use Rattle.at_text.specs.Order.{name_cmp, IsUpto, keyed, pair_of, AreKeys, AreGiven}
 use Rattle.at_text.proofs.ByBytes.{name_cmp_total}
 
 -- one more number
@@ -55,7 +55,7 @@ zero_at (suc n) (suc m) = zero_at n m
 -- no key is given at first
 pub given_none : (sorted : List ℕ) (n : ℕ) → AreGiven 0 sorted (replicate n 0)
 given_none sorted n =
-    let none : (m : ℕ) → widths.names ≤ slice_index (replicate n 0) m → ⊥ = λ m high. omega (arith, zero_at n m) in
+    let none : (m : ℕ) → 0 < slice_index (replicate n 0) m → ⊥ = λ m high. omega (arith, zero_at n m) in
     record {
       all = λ k below. absurd (omega arith);
       within = λ m high. absurd (none m high);
@@ -71,7 +71,7 @@ after_write keys n key m within =
     ]
 
 -- one more key is given
-pub given_more : (sorted keys : List ℕ) (i n key : ℕ) → n < length keys → n ≡ slice_index sorted i → key ≡ widths.names + i → AreGiven i sorted keys → AreGiven (i + 1) sorted (set keys n key)
+pub given_more : (sorted keys : List ℕ) (i n key : ℕ) → n < length keys → n ≡ slice_index sorted i → key ≡ i + 1 → AreGiven i sorted keys → AreGiven (i + 1) sorted (set keys n key)
 given_more sorted keys i n key within at is given =
     let written = λ (m : ℕ). after_write keys n key m within in
     record {
@@ -87,45 +87,28 @@ given_more sorted keys i n key within at is given =
       within = λ m high.
           elim (written m) [
             | inl new ↦ omega (arith, new.1)
-            | inr same ↦ (let old : widths.names ≤ slice_index keys m = omega (arith, same.1) in omega (arith, same.1, given.within m old))
+            | inr same ↦ (let old : 0 < slice_index keys m = omega (arith, same.1) in omega (arith, same.1, given.within m old))
           ];
       places = λ m high.
           elim (written m) [
-            | inl new ↦ (let place : slice_index (set keys n key) m - widths.names ≡ i = omega (arith, new.1) in ap (slice_index sorted) place ∙ sym at ∙ sym new.0)
+            | inl new ↦ (let place : slice_index (set keys n key) m - 1 ≡ i = omega (arith, new.1) in ap (slice_index sorted) place ∙ sym at ∙ sym new.0)
             | inr same ↦
-                (let old : widths.names ≤ slice_index keys m = omega (arith, same.1) in ap (λ k. slice_index sorted (k - widths.names)) same.1 ∙ given.places m old)
+                (let old : 0 < slice_index keys m = omega (arith, same.1) in ap (λ k. slice_index sorted (k - 1)) same.1 ∙ given.places m old)
           ];
     }
 
-key_in : (keys : List ℕ) (a : ℕ) → a < length keys → key_at keys a ≡ slice_index keys a
-key_in keys a within = unwrap_or-slice_get keys a (widths.names - 1 - a) ∙ get_or_default keys a (widths.names - 1 - a) 0 within
+-- how many numbers are in the order of another list of them
+pub range_length : {n : ℕ} {sorted : List ℕ} → IsPermutation (range_with_len 0 n) sorted → length sorted ≡ n
+range_length {n} {sorted} same = length_permutation (range_with_len 0 n) sorted same ∙ length-range_with_len 0 n
 
-key_past : (keys : List ℕ) (a : ℕ) → length keys ≤ a → key_at keys a ≡ widths.names - 1 - a
-key_past keys a past = ap (λ (o : Option ℕ). unwrap_or o (widths.names - 1 - a)) (slice_get_past keys a past)
-
-text_past : (texts : List (List ℕ)) (a : ℕ) → length texts ≤ a → text_at texts a ≡ []
-text_past texts a past = ap (λ (o : Option (List ℕ)). unwrap_or o []) (slice_get_past texts a past)
-
-not_after : (a b : ℕ) → b ≤ a → is_gt (nat_cmp b a) ≡ false
-not_after a b low = grind (arith, nat_tests)
-
-empty_upto : (text : List ℕ) (a b : ℕ) → b ≤ a → is_gt (ordering_then (slice_cmp nat_cmp [] text) (nat_cmp b a)) ≡ false
-empty_upto [] a b low = not_after a b low
-empty_upto (byte ∷ text) a b low = refl
-
--- a name without a text doesn't come after one of a lower number
-past_upto : (texts : List (List ℕ)) (a b : ℕ) → length texts ≤ a → b ≤ a → IsUpto texts a b
-past_upto texts a b past low =
-    ap (λ text. is_gt (ordering_then (slice_cmp nat_cmp text (text_at texts b)) (nat_cmp b a))) (text_past texts a past) ∙ empty_upto (text_at texts b) a b low
-
--- each name that has a text has a key
-key_given : (texts : List (List ℕ)) (sorted keys : List ℕ) → IsPermutation (range_with_len 0 (length texts)) sorted → AreGiven (length sorted) sorted keys → (a : ℕ) → a < length texts → widths.names ≤ slice_index keys a
-key_given texts sorted keys same given a low =
-    let n = length texts in
+-- each number has a key
+key_given : (n : ℕ) (sorted keys : List ℕ) → IsPermutation (range_with_len 0 n) sorted → AreGiven n sorted keys → (a : ℕ) → a < n → 0 < slice_index keys a
+key_given n sorted keys same given a low =
     let there : Contains (range_with_len 0 n) a = (a, omega (arith, length-range_with_len 0 n), get_or-range_with_len 0 n a a low ∙ zero-add a) in
     let found = Contains-permutation (range_with_len 0 n) sorted a same there in
     let is : slice_index sorted found.0 ≡ a = get_or_default sorted found.0 0 a found.1 ∙ found.2 in
-    omega (arith, ap (slice_index keys) is, given.all found.0 found.1)
+    let within : found.0 < n = omega (arith, found.1, range_length same) in
+    omega (arith, ap (slice_index keys) is, given.all found.0 within)
 
 is_upto_if : (o : Ordering) → is_lt (ordering_reverse o) ≡ false → is_gt o ≡ false
 is_upto_if Less is = refl
@@ -139,36 +122,17 @@ places_upto texts sorted up i j low within =
     let far = sorted_far (λ a b. is_lt (name_cmp texts a b)) (ranks_by total (λ (n : ℕ). n)) sorted up i j 0 low within in
     is_upto_if (name_cmp texts (slice_index sorted i) (slice_index sorted j)) (ap is_lt (sym (total.antisymm (slice_index sorted j) (slice_index sorted i))) ∙ far)
 
-both_upto : (texts : List (List ℕ)) (sorted keys : List ℕ) → IsSortedBy (λ a b. is_lt (name_cmp texts a b)) sorted → AreGiven (length sorted) sorted keys → (a b : ℕ) → widths.names ≤ slice_index keys a → widths.names ≤ slice_index keys b → slice_index keys a ≤ slice_index keys b → IsUpto texts a b
-both_upto texts sorted keys up given a b high high' low =
-    let i = slice_index keys a - widths.names in
-    let j = slice_index keys b - widths.names in
-    let order : i ≤ j = omega arith in
-    let upto = places_upto texts sorted up i j order (given.within b high') in
-    subst (λ n. IsUpto texts n b) (given.places a high) (subst (λ n. IsUpto texts (slice_index sorted i) n) (given.places b high') upto)
-
 -- keys that were given to all names sort them
-pub keys_sort : (texts : List (List ℕ)) (sorted keys : List ℕ) → IsPermutation (range_with_len 0 (length texts)) sorted → IsSortedBy (λ a b. is_lt (name_cmp texts a b)) sorted → length keys ≡ length sorted → AreGiven (length sorted) sorted keys → AreKeys texts keys
-keys_sort texts sorted keys same up long given a b low low' order =
-    let count : length keys ≡ length texts = long ∙ length_permutation (range_with_len 0 (length texts)) sorted same ∙ length-range_with_len 0 (length texts) in
-    elim (cases_lt a (length keys)) [
-      | inl a_in ↦
-          (let high = key_given texts sorted keys same given a (omega (arith, count, a_in)) in
-          elim (cases_lt b (length keys)) [
-            | inl b_in ↦ both_upto texts sorted keys up given a b high (key_given texts sorted keys same given b (omega (arith, count, b_in))) (omega (arith, order, key_in keys a a_in, key_in keys b b_in))
-            | inr b_past ↦ absurd (omega (arith, order, high, key_in keys a a_in, key_past keys b b_past))
-          ])
-      | inr a_past ↦
-          (let past : length texts ≤ a = omega (arith, count, a_past) in
-          elim (cases_lt b (length keys)) [
-            | inl b_in ↦ past_upto texts a b past (omega (arith, b_in, a_past))
-            | inr b_past ↦ past_upto texts a b past (omega (arith, order, key_past keys a a_past, key_past keys b b_past))
-          ])
-    ]
-
--- how many numbers are in the order of another list of them
-pub range_length : {n : ℕ} {sorted : List ℕ} → IsPermutation (range_with_len 0 n) sorted → length sorted ≡ n
-range_length {n} {sorted} same = length_permutation (range_with_len 0 n) sorted same ∙ length-range_with_len 0 n
+pub keys_sort : (n : ℕ) (texts : List (List ℕ)) (sorted keys : List ℕ) → IsPermutation (range_with_len 0 n) sorted → IsSortedBy (λ a b. is_lt (name_cmp texts a b)) sorted → AreGiven n sorted keys → (a b : ℕ) → a < n → b < n → slice_index keys a ≤ slice_index keys b → IsUpto texts a b
+keys_sort n texts sorted keys same up given a b low low' order =
+    let high = key_given n sorted keys same given a low in
+    let high' = key_given n sorted keys same given b low' in
+    let i = slice_index keys a - 1 in
+    let j = slice_index keys b - 1 in
+    let up_to : i ≤ j = omega (arith, order, high, high') in
+    let within : j < length sorted = omega (arith, given.within b high', range_length same) in
+    let upto = places_upto texts sorted up i j up_to within in
+    subst (λ m. IsUpto texts m b) (given.places a high) (subst (λ m. IsUpto texts (slice_index sorted i) m) (given.places b high') upto)
 
 -- the pair at a place of a map stands under a number that is at least the place
 pub pair_at : (own : List (ℕ × Value)) (i : ℕ) (pair : ℕ × Value) → slice_get own i ≡ Some pair → get_or own i pair ≡ pair
@@ -194,17 +158,17 @@ sorted_same keys own entries same =
     let P : List (ℕ × Value) → Type 0 = λ l. IsPermutation l (map pair_of entries) in
     subst P (map-map pair_of (keyed keys) own ∙ map-id own) (IsPermutation-map pair_of (map (keyed keys) own) entries same)
 
-keyed_right : (keys : List ℕ) (own : List (ℕ × Value)) → All (λ e. e.0 ≡ key_at keys e.1) (map (keyed keys) own)
-keyed_right keys own = All-map (λ e. e.0 ≡ key_at keys e.1) (keyed keys) own (λ k d within. refl)
+keyed_right : (keys : List ℕ) (own : List (ℕ × Value)) → All (λ e. e.0 ≡ slice_index keys e.1) (map (keyed keys) own)
+keyed_right keys own = All-map (λ e. e.0 ≡ slice_index keys e.1) (keyed keys) own (λ k d within. refl)
 
 -- entries by rising keys are pairs by rising keys of their names
-pub sorted_up : (keys : List ℕ) (own : List (ℕ × Value)) (entries : List (ℕ × ℕ × Value)) → IsPermutation (map (keyed keys) own) entries → IsNonDecreasingBy (λ e. e.0) entries → IsNonDecreasingBy (λ pair. key_at keys pair.0) (map pair_of entries)
+pub sorted_up : (keys : List ℕ) (own : List (ℕ × Value)) (entries : List (ℕ × ℕ × Value)) → IsPermutation (map (keyed keys) own) entries → IsNonDecreasingBy (λ e. e.0) entries → IsNonDecreasingBy (λ pair. slice_index keys pair.0) (map pair_of entries)
 sorted_up keys own entries same up i j d low within =
-    let right = All-permutation (λ (e : ℕ × ℕ × Value). e.0 ≡ key_at keys e.1) (map (keyed keys) own) entries same (keyed_right keys own) in
+    let right = All-permutation (λ (e : ℕ × ℕ × Value). e.0 ≡ slice_index keys e.1) (map (keyed keys) own) entries same (keyed_right keys own) in
     let count : length (map pair_of entries) ≡ length entries = length-map entries pair_of in
     let j_in : j < length entries = omega (arith, within, count) in
     let i_in : i < length entries = omega (arith, j_in, low) in
     let e : ℕ × ℕ × Value = (0, d.0, d.1) in
-    let key : (k : ℕ) → k < length entries → key_at keys (get_or (map pair_of entries) k d).0 ≡ (get_or entries k e).0 =
-    λ k k_in. ap (λ (p : ℕ × Value). key_at keys p.0) (get_or-map pair_of entries k e d k_in) ∙ sym (right k e k_in) in
+    let key : (k : ℕ) → k < length entries → slice_index keys (get_or (map pair_of entries) k d).0 ≡ (get_or entries k e).0 =
+    λ k k_in. ap (λ (p : ℕ × Value). slice_index keys p.0) (get_or-map pair_of entries k e d k_in) ∙ sym (right k e k_in) in
     omega (arith, key i i_in, key j j_in, up i j e low j_in)

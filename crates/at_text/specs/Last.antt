@@ -9,16 +9,16 @@ use Rattle.at_model.specs.declared.last.ObjEnd.{ObjEnd}
 use Rattle.at_script.specs.Parts.{ScriptParts}
 use Rattle.at_text.specs.Values.{text_at, object_text, class_item, classes_text, value_item}
 
--- the pairs with one more, before the first whose name is greater by bytes, and so after those whose name is the same
+-- the pairs with one more, before the first whose name isn't less by bytes
 abbrev pub inserted : ScriptParts → ℕ × Value → List (ℕ × Value) → List (ℕ × Value)
 inserted s pair [] = pair ∷ []
 inserted s pair (next ∷ rest) =
-    if is_lt (slice_cmp nat_cmp (text_at s.names pair.0) (text_at s.names next.0))
-    then pair ∷ next ∷ rest
-    else next ∷ inserted s pair rest
+    if is_lt (slice_cmp nat_cmp (text_at s.names next.0) (text_at s.names pair.0))
+    then next ∷ inserted s pair rest
+    else pair ∷ next ∷ rest
 
 -- The pairs, sorted by the bytes of their names. Pairs whose names have the same bytes, as names that the script doesn't
--- have, come out in the opposite order.
+-- have, stay in their order.
 abbrev pub by_bytes : ScriptParts → List (ℕ × Value) → List (ℕ × Value)
 by_bytes s [] = []
 by_bytes s (pair ∷ pairs) = inserted s pair (by_bytes s pairs)

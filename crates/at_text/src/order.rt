@@ -1,11 +1,11 @@
 //! The order of names by the bytes of their texts.
-ghost use Rattle.std.specs.Prelude.{◌≡◌, ◌<◌, ◌≤◌, All, IfOk, map, length, vec_capacity};
+ghost use Rattle.std.specs.Prelude.{◌≡◌, ◌<◌, All, IfOk, map, length, slice_index, vec_capacity};
 ghost use Rattle.std.specs.List.{range_with_len};
 ghost use Rattle.std.specs.List.Sorted.{IsPermutation, IsNonDecreasingBy, IsSortedBy};
 ghost use Rattle.std.specs.Ordering.{is_lt};
 ghost use Rattle.at_value.specs.Pairs.{IsRising};
 ghost use Rattle.at_value.specs.Widths as widths;
-ghost use Rattle.at_text.specs.Order.{AreGiven, AreKeys, key_at, keyed, name_cmp, pair_of};
+ghost use Rattle.at_text.specs.Order.{AreGiven, AreKeys, keyed, name_cmp, pair_of};
 ghost use Rattle.at_text.specs.Values.{text_at};
 
 use at_script::Script;
@@ -14,10 +14,10 @@ use std::alloc::{AllocError, Global};
 use std::cmp::Ordering;
 use std::marker::Model;
 
-/// How many names one map has at most.
-const ROOM: usize = Name::COUNT as usize;
+/// How many names there are, and so how many one map has at most.
+const NAMES: usize = Name::COUNT as usize;
 
-/// Keys that sort names as the bytes of their texts do, and room for the names of one map, each after its key.
+/// Keys that sort all names as the bytes of their texts do, and room for the names of one map, each after its key.
 #[derive(Drop)]
 pub struct ByBytes {
     keys: Vec<u16>,
@@ -25,7 +25,7 @@ pub struct ByBytes {
 }
 
 impl Model for ByBytes {
-    ghost use Rattle.std.specs.Prelude.{◌≡◌, vec_capacity};
+    ghost use Rattle.std.specs.Prelude.{◌≡◌, length, vec_capacity};
     ghost use Rattle.at_value.specs.Widths as widths;
     ghost use Rattle.at_text.specs.Order.{Order};
 
@@ -33,7 +33,7 @@ impl Model for ByBytes {
 
     ghost view = { λ o. record { keys = o.keys.items; entries = o.entries.items } };
 
-    ghost invariant = { λ o. vec_capacity o.entries ≡ widths.names };
+    ghost invariant = { λ o. (length o.keys.items ≡ widths.names) × (vec_capacity o.entries ≡ widths.names) };
 }
 
 impl ByBytes {
@@ -43,7 +43,7 @@ impl ByBytes {
     {
         Ok(ByBytes {
             keys: keys_of(alloc, names)?,
-            entries: Vec::with_capacity(alloc, ROOM)?,
+            entries: Vec::with_capacity(alloc, NAMES)?,
         })
     }
 
@@ -51,7 +51,7 @@ impl ByBytes {
     pub fn sort(&mut self, own: &Pairs)
         ensures keys { self.new.keys ≡ self.old.keys }
         ensures same { IsPermutation own.now (map pair_of self.new.entries) }
-        ensures sorted { IsNonDecreasingBy (λ pair. key_at self.old.keys pair.0) (map pair_of self.new.entries) }
+        ensures sorted { IsNonDecreasingBy (λ pair. slice_index self.old.keys pair.0) (map pair_of self.new.entries) }
         ensures rising { IsRising own.now }
         ensures range { All (λ pair. pair.0 < widths.names) own.now }
     {
@@ -69,19 +69,17 @@ impl ByBytes {
 
 /// The key of a name.
 fn key_of(keys: &[u16], name: Name) -> u16
-    ensures key { result ≡ key_at keys.now name }
+    requires { length keys.now ≡ widths.names }
+    ensures key { result ≡ slice_index keys.now name }
     ensures range { name < widths.names }
 {
-    let number = name.number();
-    match keys.get(usize::from(number)) {
-        Some(key) => *key,
-        None => Name::COUNT - 1 - number,
-    }
+    keys[usize::from(name.number())]
 }
 
 /// Takes the pairs of a map in, each after its key.
 fn take_in(own: &Pairs, keys: &[u16], entries: &mut Vec<(u16, Name, Value)>)
-    requires { vec_capacity entries.old ≡ widths.names }
+    requires keys { length keys.now ≡ widths.names }
+    requires capacity { vec_capacity entries.old ≡ widths.names }
     ensures entries { entries.new.items ≡ map (keyed keys.now) own.now }
     ensures capacity { vec_capacity entries.new ≡ vec_capacity entries.old }
     ensures rising { IsRising own.now }
@@ -105,11 +103,11 @@ fn bytes_of(names: &Script, name: Name) -> &[u8]
     }
 }
 
-/// How two names come one after another: by the bytes of their texts, and by falling number where these are the same.
+/// How two names come one after another: by the bytes of their texts, and by their numbers where these are the same.
 fn compare(names: &Script, a: Name, b: Name) -> Ordering
     ensures { result ≡ name_cmp names.now.names a b }
 {
-    bytes_of(names, a).cmp(bytes_of(names, b)).then(b.cmp(&a))
+    bytes_of(names, a).cmp(bytes_of(names, b)).then(a.cmp(&b))
 }
 
 /// The name with this number.
@@ -120,48 +118,47 @@ fn name_at(number: usize) -> Name
     Name::new(number as u16).unwrap()
 }
 
-/// The names of the script, by rising number.
-fn all_names(alloc: Global, names: &Script) -> Result<Vec<Name>, AllocError>
-    ensures all { IfOk result (λ all. all.items ≡ range_with_len 0 (length names.now.names)) }
-    ensures most { length names.now.names ≤ widths.names }
+/// All names, by rising number.
+fn all_names(alloc: Global) -> Result<Vec<Name>, AllocError>
+    ensures { IfOk result (λ all. all.items ≡ range_with_len 0 widths.names) }
 {
-    let mut all = Vec::with_capacity(alloc, names.names())?;
-    for number in 0..names.names() {
+    let mut all = Vec::with_capacity(alloc, NAMES)?;
+    for number in 0..NAMES {
         all.push(name_at(number))?;
     }
     Ok(all)
 }
 
-/// The names of the script, by their texts.
+/// All names, by their texts in the script.
 fn sorted_names(alloc: Global, names: &Script) -> Result<Vec<Name>, AllocError>
-    ensures same { IfOk result (λ sorted. IsPermutation (range_with_len 0 (length names.now.names)) sorted.items) }
+    ensures same { IfOk result (λ sorted. IsPermutation (range_with_len 0 widths.names) sorted.items) }
     ensures sorted { IfOk result (λ sorted. IsSortedBy (λ a b. is_lt (name_cmp names.now.names a b)) sorted.items) }
-    ensures most { length names.now.names ≤ widths.names }
 {
-    let mut sorted = all_names(alloc, names)?;
+    let mut sorted = all_names(alloc)?;
     sorted.sort_unstable_by(|a, b| compare(names, *a, *b));
     Ok(sorted)
 }
 
-/// The keys of names that come in this order, by number: 4,096 and its place for each.
+/// The keys of all names, by number: 1 and the name's place in this order.
 fn keys_in(alloc: Global, sorted: &[Name]) -> Result<Vec<u16>, AllocError>
-    requires most { length sorted.now ≤ widths.names }
-    requires below { All (λ n. n < length sorted.now) sorted.now }
+    requires length { length sorted.now ≡ widths.names }
+    requires range { All (λ n. n < widths.names) sorted.now }
     ensures { IfOk result (λ keys.
-        (length keys.items ≡ length sorted.now) × AreGiven (length sorted.now) sorted.now keys.items) }
+        (length keys.items ≡ widths.names) × AreGiven widths.names sorted.now keys.items) }
 {
-    let mut keys = vec![in alloc; 0u16; sorted.len()]?;
-    let mut key = Name::COUNT;
+    let mut keys = vec![in alloc; 0u16; NAMES]?;
+    let mut key = 0;
     for name in sorted {
-        keys[usize::from(name.number())] = key;
         key += 1;
+        keys[usize::from(name.number())] = key;
     }
     Ok(keys)
 }
 
-/// The keys of the names of the script.
+/// The keys of all names, by their texts in the script.
 fn keys_of(alloc: Global, names: &Script) -> Result<Vec<u16>, AllocError>
-    ensures { IfOk result (λ keys. AreKeys names.now.names keys.items) }
+    ensures length { IfOk result (λ keys. length keys.items ≡ widths.names) }
+    ensures order { IfOk result (λ keys. AreKeys names.now.names keys.items) }
 {
     let sorted = sorted_names(alloc, names)?;
     keys_in(alloc, &sorted)
