@@ -4,10 +4,10 @@ ghost use Rattle.attrs.specs.Status.{code_of};
 
 use at_script::Cause;
 
-/// How a call ends: with its text written whole, or with one of these answers.
+/// How a call ends: with its text written whole and flushed, or with one of these answers.
 #[derive(Clone, Copy, Debug, PartialEq, Eq)]
 pub enum Status {
-    /// The text was written whole.
+    /// The text was written whole, and is flushed.
     Good,
     /// The bytes are no script: the line, and what is wrong with it.
     Refused(u32, Cause),
