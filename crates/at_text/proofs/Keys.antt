@@ -1,24 +1,20 @@
 -- Keys that sort names as the bytes of their texts do.
-use Rattle.std.proofs.Common.{◌≡◌, ◌≢◌, ◌∙◌, ap, sym, refl, ℕ, zero, suc, ◌+◌, ◌-◌, ◌<◌, ◌≤◌, List, [], ◌∷◌, ◌++◌, length, get_or, set, replicate, take, arith, false, subst, ◌⊎◌, inl, inr, unwrap_or, slice_get, slice_index, get_or-set_same, get_or-set_other, zero-add, Option, Some, map}
+use Rattle.std.proofs.Common.{◌≡◌, ◌≢◌, ◌∙◌, ap, sym, refl, ℕ, zero, suc, ◌+◌, ◌-◌, ◌<◌, ◌≤◌, List, [], ◌∷◌, ◌++◌, length, get_or, set, replicate, take, arith, false, subst, ◌⊎◌, inl, inr, slice_get, slice_index, get_or-set_same, get_or-set_other, zero-add, Some, map}
 use Rattle.std.specs.List.{range_with_len, Contains, All}
 use Rattle.std.specs.List.Sorted.{IsPermutation, IsSortedBy, IsNonDecreasingBy}
 use Rattle.std.specs.declared.cmp.Ordering.{Ordering}
 use Rattle.std.specs.declared.cmp.Ordering.TheVariants.{Less, Equal, Greater}
-use Rattle.std.specs.Ordering.{nat_cmp, ordering_then, ordering_reverse, is_gt, is_lt}
-use Rattle.std.specs.Cmp.Lexicographic.{slice_cmp}
-use Rattle.std.proofs.lemmas.Bool.Decides.{nat_tests, eqb_tells}
+use Rattle.std.specs.Ordering.{ordering_reverse, is_gt, is_lt}
+use Rattle.std.proofs.lemmas.Bool.Decides.{eqb_tells}
 use Rattle.std.proofs.lemmas.List.FromFn.{length-range_with_len, get_or-range_with_len}
 use Rattle.std.proofs.lemmas.List.Sorted.{Contains-permutation, All-permutation, length_permutation, sorted_far, ranks_by, IsPermutation-map}
 use Rattle.std.proofs.lemmas.List.{get_or_default, map_more, map-id, get_or-map, length-map}
 use Rattle.std.proofs.lemmas.Simd.{map-map}
 use Rattle.std.proofs.lemmas.List.Elements.{All-more, All-map}
-use Rattle.std.proofs.lemmas.Bool.{cases_lt}
-use Rattle.std.proofs.lemmas.Option.{unwrap_or-slice_get, slice_get_past, slice_get_within, get_or_from_slice_get}
+use Rattle.std.proofs.lemmas.Option.{slice_get_within, get_or_from_slice_get}
 use Rattle.at_value.specs.declared.value.Value.{Value}
 use Rattle.at_value.specs.Pairs.{AreAbove, IsRising}
-use Rattle.at_value.specs.Widths as widths
-use Rattle.at_text.specs.Values.{text_at}
-use Rattle.at_text.specs.Order.{name_cmp, IsUpto, keyed, pair_of, AreKeys, AreGiven}
+use Rattle.at_text.specs.Order.{name_cmp, IsUpto, keyed, pair_of, AreGiven}
 use Rattle.at_text.proofs.ByBytes.{name_cmp_total}
 
 -- one more number
