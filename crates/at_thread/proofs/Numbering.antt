@@ -1,5 +1,5 @@
 -- The lines of threads, numbered.
-use Rattle.std.proofs.Common.{◌≡◌, ◌∙◌, refl, sym, ap, ℕ, zero, suc, ◌+◌, ◌==◌, arith, List, [], ◌∷◌, ◌++◌, Some, Bool, true, false, if◌then◌else◌, slice_get, map}
+use Rattle.std.proofs.Common.{◌≡◌, ◌∙◌, refl, ap, ℕ, zero, suc, ◌+◌, ◌==◌, arith, List, [], ◌∷◌, ◌++◌, Some, Bool, true, false, if◌then◌else◌, slice_get, map}
 use Rattle.std.proofs.lemmas.Bool.{eq-eqb}
 use Rattle.at_line.specs.declared.line.Line.{Line}
 use Rattle.at_line.specs.declared.line.What as what
@@ -7,10 +7,10 @@ use Rattle.at_line.specs.Lines.{what_of}
 use Rattle.at_line.specs.Kept.{whats_of_thread}
 use Rattle.at_thread.specs.Runs.{numbered}
 
-pub number_at : (thread from i : ℕ) (says : List what.What) (line : Line) → slice_get (numbered thread from says) i ≡ Some line → (line.number ≡ from + i) × (line.thread ≡ thread)
+pub number_at : (thread from i : ℕ) (says : List what.What) (line : Line) → slice_get (numbered thread from says) i ≡ Some line → line.number ≡ from + i
 number_at thread from i [] line e = cc
-number_at thread from zero (w ∷ says) line e = (let same : record { what = w; number = from; thread = thread } ≡ line = cc in let n = ap (λ (l : Line). l.number) same in omega (arith, n), let same : record { what = w; number = from; thread = thread } ≡ line = cc in sym (ap (λ (l : Line). l.thread) same))
-number_at thread from (suc i) (w ∷ says) line e = let h = number_at thread (suc from) i says line e in (omega (arith, h.0), h.1)
+number_at thread from zero (w ∷ says) line e = let same : record { what = w; number = from; thread = thread } ≡ line = cc in let n = ap (λ (l : Line). l.number) same in omega arith
+number_at thread from (suc i) (w ∷ says) line e = let h = number_at thread (suc from) i says line e in omega arith
 
 -- a thread's numbered lines are its own
 pub own : (thread from : ℕ) (says : List what.What) → whats_of_thread thread (numbered thread from says) ≡ says

@@ -3,7 +3,6 @@
 use Rattle.std.specs.Prelude.{pos, List, [], ◌∷◌, ◌++◌, None, Some}
 use Rattle.at_value.specs.declared.value.Value as value
 use Rattle.at_value.specs.declared.value.Value.TheVariants as values
-use Rattle.at_value.specs.declared.operation.Op as op
 use Rattle.at_value.specs.declared.operation.Op.TheVariants as ops
 use Rattle.at_value.specs.declared.reply.Reply.TheVariants as replies
 use Rattle.at_line.specs.declared.line.Local as local

@@ -1,5 +1,5 @@
 -- The laws of executions.
-use Rattle.std.specs.Prelude.{◌≡◌, ℕ, suc, ◌+◌, ◌*◌, ◌≤◌, List, [], ◌∷◌, ◌++◌, length, slice_get, Some}
+use Rattle.std.specs.Prelude.{◌≡◌, ℕ, suc, ◌+◌, ◌*◌, ◌≤◌, ◌==◌, List, [], ◌∷◌, ◌++◌, length, filter, slice_get, Some}
 use Rattle.at_value.specs.declared.reply.Place.{Place}
 use Rattle.at_value.specs.declared.reply.Path as path
 use Rattle.at_line.specs.declared.line.Line.{Line}
@@ -13,7 +13,7 @@ use Rattle.at_script.specs.declared.stmt.Stmt as stmt
 use Rattle.at_script.specs.Parts.{ScriptParts}
 use Rattle.at_thread.specs.Execution.{Variables, ThreadState, says, start, next_of}
 use Rattle.at_thread.specs.Executions.{IsExecution}
-use Rattle.at_thread.specs.Runs.{numbered}
+use Rattle.at_thread.specs.Runs.{IsRunOf}
 
 -- What of a line the script doesn't determine: the place, the path and the reply of an operation, or that the history has
 -- no room or a head can't be written any more.
@@ -49,11 +49,11 @@ ExecutionsAreShort =
     (s : ScriptParts) (block : List stmt.Stmt) (variables : Variables) (lines : List what.What) (end : ThreadState)
     → IsExecution s (start block variables) lines end → (length lines ≤ 2 * end.begun + 1) × (end.begun ≤ s.budget)
 
--- the lines of a thread are numbered from 1 without a gap
+-- in a run of a script the lines of each thread, in the order in which they stand, have the numbers 1, 2 and so on
 abbrev pub NumbersHaveNoGap : Type 0
 NumbersHaveNoGap =
-    (thread i : ℕ) (says : List what.What) (line : Line) → slice_get (numbered thread 1 says) i ≡ Some line
-    → (line.number ≡ suc i) × (line.thread ≡ thread)
+    (s : ScriptParts) (lines : List Line) → IsRunOf s lines → (thread i : ℕ) (line : Line) → slice_get (filter (λ (l : Line). l.thread == thread) lines) i ≡ Some line
+    → line.number ≡ suc i
 
 -- a line that a state demands by itself names no limit
 abbrev pub OwnLinesNameNoLimit : Type 0

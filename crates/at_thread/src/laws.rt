@@ -13,7 +13,7 @@ pub fn executions_are_short()
     ensures { ExecutionsAreShort }
 {}
 
-/// The lines of a thread are numbered from 1 without a gap.
+/// In a run of a script the lines of each thread, in the order in which they stand, are numbered from 1 without a gap.
 pub fn numbers_have_no_gap()
     ensures { NumbersHaveNoGap }
 {}
