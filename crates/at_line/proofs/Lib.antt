@@ -4,5 +4,5 @@ pub mod Serials
 pub mod OneThread
 pub mod Placed
 pub mod KeptSections
-mod LineChecks
+pub mod LineChecks
 pub mod SerialSections

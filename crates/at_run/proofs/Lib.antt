@@ -2,4 +2,5 @@ mod Turning
 mod Serial
 mod Unique
 mod InOrder
+mod RunChecks
 pub mod Legals

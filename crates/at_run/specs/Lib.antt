@@ -3,3 +3,4 @@ pub mod LegalRun
 pub mod PlainRun
 pub mod Turns
 pub mod Laws
+pub mod RunExamples
