@@ -10,8 +10,6 @@ use Rattle.at_line.specs.declared.line.LineOp.TheVariants as line_ops
 use Rattle.at_line.specs.declared.line.Local.TheVariants as locals
 use Rattle.at_line.specs.declared.line.What as what
 use Rattle.at_line.specs.declared.line.What.TheVariants as whats
-use Rattle.at_model.specs.History.{replay}
-use Rattle.at_model.specs.Final.{final_of}
 use Rattle.at_line.specs.Legal.{IsKeptAlone, IsLimitMet}
 use Rattle.at_line.specs.Lines.{main_thread, most_threads, what_of, is_write_reply, write_in, writes, write_count}
 use Rattle.at_line.specs.Kept.{whats_of_thread}

@@ -36,7 +36,7 @@ use Rattle.at_thread.specs.Executions.{can_reply, stands_for, Answers, Fits, Lea
 use Rattle.at_thread.specs.Runs.{numbered, lines_in_order, whole, Executes, unbound}
 use Rattle.at_thread.proofs.Numbering.{whats_of_numbered}
 use Rattle.at_run.specs.Opening.{opening_of}
-use Rattle.at_run.specs.PlainRun.{IsUndisturbed, under_locks, line_under_locks, IsSerialRun, IsPlainRun}
+use Rattle.at_run.specs.PlainRun.{IsUndisturbed, under_locks, line_under_locks, IsSerialRun}
 use Rattle.at_run.specs.Laws.{SerialRunsAreOne, PlainRunsAreOne}
 use Rattle.at_run.proofs.Serial.{serial_split}
 
