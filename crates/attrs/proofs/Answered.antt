@@ -14,7 +14,7 @@ answered Runs r w bytes statuses.Good read answer = (bytes, read, answer)
 answered Runs r w bytes (statuses.Refused line cause) read answer = (bytes, read, answer)
 answered Runs r w bytes statuses.TooLong read answer = absurd answer
 answered Runs r w bytes statuses.Usage read answer = absurd answer
-answered Runs r w bytes statuses.NoMemory read answer = answer
+answered Runs r w bytes statuses.NoMemory read answer = (read.2, answer)
 answered Runs r w bytes statuses.ReadFault read answer = absurd answer
 answered Runs r w bytes statuses.WriteFault read answer = inl (bytes, read, answer)
 

@@ -103,9 +103,9 @@ Wrote w bytes = (w.after ≡ append_known w.before bytes) × IsTrue w.is_flushed
 abbrev pub FailedWriting : SinkChange → List ℕ → Type 0
 FailedWriting w bytes = Rose w.faults_before w.faults_after × GrewByPrefix w.before w.after bytes
 
--- nothing was written
+-- nothing was written, and the sink didn't fail
 abbrev pub WroteNothing : SinkChange → Type 0
-WroteNothing w = w.after ≡ w.before
+WroteNothing w = (w.after ≡ w.before) × (w.faults_after ≡ w.faults_before)
 
 -- The answers
 
@@ -138,15 +138,15 @@ IsTextAnswer Runs bytes w statuses.ReadFault = ⊥
 -- What is so at each answer to a script that is read and run: the transcript is written whole where the source gave a
 -- script to its end; it is refused where what the source gave to its end is no script, and, as too long, where the source
 -- gave more bytes than a script may have. A text that was written whole is flushed, and then neither end failed; a fault is
--- answered only where the count of the source or the sink rose. Out of memory alone has no cause; then, and at a fault of
--- the source, nothing is written.
+-- answered exactly where the count of the source or the sink rose. Out of memory alone has no cause; then, and at a fault
+-- of the source, nothing is written.
 abbrev pub IsAnswer : Running → SourceChange → SinkChange → status.Status → Type 0
 IsAnswer Runs r w statuses.Good = (bytes : List ℕ) × ReadAll r bytes × IsTextAnswer Runs bytes w statuses.Good
 IsAnswer Runs r w (statuses.Refused line cause) =
     (bytes : List ℕ) × ReadAll r bytes × IsTextAnswer Runs bytes w (statuses.Refused line cause)
 IsAnswer Runs r w statuses.TooLong = ReadTooMany r × Wrote w too_long_text
 IsAnswer Runs r w statuses.Usage = ⊥
-IsAnswer Runs r w statuses.NoMemory = WroteNothing w
+IsAnswer Runs r w statuses.NoMemory = (r.faults_after ≡ r.faults_before) × WroteNothing w
 IsAnswer Runs r w statuses.ReadFault = FailedReading r × WroteNothing w
 IsAnswer Runs r w statuses.WriteFault =
     ((bytes : List ℕ) × ReadAll r bytes × IsTextAnswer Runs bytes w statuses.WriteFault)
