@@ -86,7 +86,7 @@ module _ (opened : World) (last history : List op.Op) (line : Line) (lines : Lis
   }
 
   module _ (place : ℕ) (o : op.Op) (one : write_in line.what ≡ (place, o) ∷ []) where
-    -- what stands at each place, with the write in front
+    -- what stands at each place, with the write first
     with_write : (q : ℕ) → history_at q history ++ (if place == q then o ∷ operations_at q (writes lines) else operations_at q (writes lines)) ≡ history_at q last
     with_write q = ap (λ ws. history_at q history ++ operations_at q (ws ++ writes lines)) (sym one) ∙ on.places q
 

@@ -18,7 +18,7 @@ pub enum LineReply {
     Of(Reply),
     /// The section was kept from its begin to its end.
     Kept,
-    /// The section was given back so many times.
+    /// The section was given back n times.
     Suspended(u32),
 }
 

@@ -8,7 +8,7 @@ use Rattle.at_line.specs.declared.line.What as what
 use Rattle.at_line.specs.Lines.{main_thread, most_threads, finally_thread}
 use Rattle.at_line.specs.Legal.{RunsAfter}
 use Rattle.at_line.specs.Serial.{AreInOrder, AreByThread}
-use Rattle.at_thread.specs.Runs.{numbered, lines_in_order, whole}
+use Rattle.at_thread.specs.Runs.{numbered_lines, lines_in_order, whole}
 
 abbrev IsFrom : ℕ → Line → Type 0
 IsFrom thread line = (thread ≤ line.thread) × (line.thread ≤ finally_thread)
@@ -26,15 +26,15 @@ record From (thread : ℕ) (lines : List Line) : Type 0 where
   pub from : All (IsFrom thread) lines
   pub order : AreByThread lines
 
-from_numbered : (thread number : ℕ) (told : List what.What) (rest : List Line) → thread ≤ finally_thread → From thread rest → From thread (numbered thread number told ++ rest)
+from_numbered : (thread number : ℕ) (told : List what.What) (rest : List Line) → thread ≤ finally_thread → From thread rest → From thread (numbered_lines thread number told ++ rest)
 from_numbered thread number [] rest most on = on
 from_numbered thread number (w ∷ told) rest most on =
     let more = from_numbered thread (suc number) told rest most on in
     let line : Line = record { what = w; number = number; thread = thread } in
     record {
-      from = All-cons (IsFrom thread) line (numbered thread (suc number) told ++ rest) (omega arith, most) more.from;
-      order = AllPairs-cons IsInOrder line (numbered thread (suc number) told ++ rest)
-          (All-weaker (IsFrom thread) (IsInOrder line) (λ second from. from.0) (numbered thread (suc number) told ++ rest) more.from) more.order;
+      from = All-cons (IsFrom thread) line (numbered_lines thread (suc number) told ++ rest) (omega arith, most) more.from;
+      order = AllPairs-cons IsInOrder line (numbered_lines thread (suc number) told ++ rest)
+          (All-weaker (IsFrom thread) (IsInOrder line) (λ second from. from.0) (numbered_lines thread (suc number) told ++ rest) more.from) more.order;
     }
 
 from_lower : (low thread : ℕ) (lines : List Line) → low ≤ thread → From thread lines → From low lines
@@ -48,7 +48,7 @@ from_threads zero thread told rest most on = from_lower thread (thread + 0) rest
 from_threads (suc count) thread told rest most on =
     let later : From (suc thread) (lines_in_order count (suc thread) told ++ rest) =
     from_threads count (suc thread) told rest (omega arith) (subst (λ (n : ℕ). From n rest) (let e : thread + suc count ≡ suc thread + count = omega arith in e) on) in
-    subst (From thread) (sym (append_assoc (numbered thread 1 (told thread)) (lines_in_order count (suc thread) told) rest))
+    subst (From thread) (sym (append_assoc (numbered_lines thread 1 (told thread)) (lines_in_order count (suc thread) told) rest))
     (from_numbered thread 1 (told thread) (lines_in_order count (suc thread) told ++ rest) (omega arith) (from_lower thread (suc thread) (lines_in_order count (suc thread) told ++ rest) (omega arith) later))
 
 none_from : (thread : ℕ) → From thread []
@@ -57,8 +57,8 @@ none_from thread = record { from = All-nil (IsFrom thread); order = λ i j d bef
 -- the lines of `main`, of the threads and of `finally`, where there are no more threads than there may be
 whole_from : (count : ℕ) (told : ℕ → List what.What) → count ≤ most_threads → From main_thread (whole count told)
 whole_from count told few =
-    let last : From finally_thread (numbered finally_thread 1 (told finally_thread)) = subst (From finally_thread) (append-nil (numbered finally_thread 1 (told finally_thread))) (from_numbered finally_thread 1 (told finally_thread) [] (omega arith) (none_from finally_thread)) in
-    from_threads (suc count) main_thread told (numbered finally_thread 1 (told finally_thread)) (omega arith) (from_lower (main_thread + suc count) finally_thread (numbered finally_thread 1 (told finally_thread)) (omega arith) last)
+    let last : From finally_thread (numbered_lines finally_thread 1 (told finally_thread)) = subst (From finally_thread) (append-nil (numbered_lines finally_thread 1 (told finally_thread))) (from_numbered finally_thread 1 (told finally_thread) [] (omega arith) (none_from finally_thread)) in
+    from_threads (suc count) main_thread told (numbered_lines finally_thread 1 (told finally_thread)) (omega arith) (from_lower (main_thread + suc count) finally_thread (numbered_lines finally_thread 1 (told finally_thread)) (omega arith) last)
 
 -- stand thread by thread
 pub whole_by_thread : (count : ℕ) (told : ℕ → List what.What) → count ≤ most_threads → AreByThread (whole count told)

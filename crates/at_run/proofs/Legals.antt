@@ -20,7 +20,7 @@ use Rattle.at_line.proofs.OneThread.{one_thread_serial}
 use Rattle.at_line.proofs.SerialSections.{serial_kept}
 use Rattle.at_script.specs.Limits as limits
 use Rattle.at_script.specs.Parts.{ScriptParts}
-use Rattle.at_thread.specs.Runs.{numbered, unbound}
+use Rattle.at_thread.specs.Runs.{numbered_lines, unbound}
 use Rattle.at_thread.proofs.Alone.{alone_lines, numbered_length}
 use Rattle.at_thread.proofs.Leading.{short}
 use Rattle.at_event.proofs.OneThread.{serial_events}
@@ -87,9 +87,9 @@ plain_is_legal s lines last few run =
 
 -- Legal runs of one block
 
-of_main : (from : ℕ) (says : List what.What) → All (λ (line : Line). line.thread ≡ main_thread) (numbered main_thread from says)
+of_main : (from : ℕ) (says : List what.What) → All (λ (line : Line). line.thread ≡ main_thread) (numbered_lines main_thread from says)
 of_main from [] = All-nil (λ (line : Line). line.thread ≡ main_thread)
-of_main from (w ∷ says) = All-cons (λ (line : Line). line.thread ≡ main_thread) (record { what = w; number = from; thread = main_thread }) (numbered main_thread (suc from) says) refl (of_main (suc from) says)
+of_main from (w ∷ says) = All-cons (λ (line : Line). line.thread ≡ main_thread) (record { what = w; number = from; thread = main_thread }) (numbered_lines main_thread (suc from) says) refl (of_main (suc from) says)
 
 -- the limits of the program are out of the reach of one block
 undisturbed : (thread writes_made count : ℕ) (w : what.What) → thread ≡ main_thread → IsKeptAlone thread w → IsLimitMet program_limits writes_made count w → writes_made ≤ count → count ≤ 2 * limits.most_budget + 1 → IsUndisturbed w
@@ -127,7 +127,7 @@ pub legal_run_serial : LegalRunsOfOneBlockAreSerial
 legal_run_serial s lines ends threads finally budget run =
     let l = run.under.legal.linearized in
     let says = whats_of_thread main_thread lines in
-    let is : lines ≡ numbered main_thread 1 says = alone_lines s lines threads finally run.under.runs in
+    let is : lines ≡ numbered_lines main_thread 1 says = alone_lines s lines threads finally run.under.runs in
     let main : All (λ (line : Line). line.thread ≡ main_thread) lines = subst (All (λ (line : Line). line.thread ≡ main_thread)) (sym is) (of_main 1 says) in
     let executed = run.under.runs.main in
     let few = short s s.main (unbound s) says executed.end executed.runs in

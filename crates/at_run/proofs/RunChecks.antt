@@ -22,7 +22,7 @@ use Rattle.at_run.specs.RunExamples.{example_script, first_block, second_block, 
 abbrev pub bound : Variables
 bound = Some (values.Obj 0) ∷ None ∷ []
 
--- a thread that has ended with these variables, after so many statements
+-- a thread that has ended with these variables, after a number of statements
 abbrev pub ended_with : Variables → ℕ → ThreadState
 ended_with variables begun = record { frames = []; call = None; variables = variables; it = values.Nothing; begun = begun }
 

@@ -23,7 +23,7 @@ use Rattle.at_script.specs.Parts.{ScriptParts}
 use Rattle.at_thread.specs.Execution as execution
 use Rattle.at_thread.specs.Execution.{next_of, start}
 use Rattle.at_thread.specs.Executions.{Makes, Leads}
-use Rattle.at_thread.specs.Runs.{numbered, unbound}
+use Rattle.at_thread.specs.Runs.{numbered_lines, unbound}
 use Rattle.at_thread.proofs.Numbering.{whats_of_numbered}
 use Rattle.at_thread.proofs.Alone.{alone_run}
 use Rattle.at_thread.proofs.Steps.{spare, Few}
@@ -165,14 +165,14 @@ few_lines p count s h =
     spare_most (f ∷ fs) = omega arith
 
 -- what is so of what lines say, is so of the lines
-pub all_numbered : (P : what.What → Type 0) (thread from : ℕ) (says : List what.What) → All P says → All (λ (line : Line). P line.what) (numbered thread from says)
+pub all_numbered : (P : what.What → Type 0) (thread from : ℕ) (says : List what.What) → All P says → All (λ (line : Line). P line.what) (numbered_lines thread from says)
 all_numbered P thread from [] all = All-nil (λ (line : Line). P line.what)
 all_numbered P thread from (w ∷ says) all =
-    All-cons (λ (line : Line). P line.what) (record { what = w; number = from; thread = thread }) (numbered thread (suc from) says) (All-head P w says all) (all_numbered P thread (suc from) says (All-tail P w says all))
+    All-cons (λ (line : Line). P line.what) (record { what = w; number = from; thread = thread }) (numbered_lines thread (suc from) says) (All-head P w says all) (all_numbered P thread (suc from) says (All-tail P w says all))
 
 -- Lines that run the block `main` to its end, on the data model from the opening world on, are the plain run of a script
 -- without other blocks.
-pub plain_run : (p : ScriptParts) (says : List what.What) (end : execution.ThreadState) (w : PlainState) (last : final.Final) → p.threads ≡ [] → p.finally ≡ None → next_of p end ≡ execution.ended → Leading p (start p.main (unbound p)) says end w → last ≡ final_of w.world → IsPlainRun p (numbered 0 1 says) last
+pub plain_run : (p : ScriptParts) (says : List what.What) (end : execution.ThreadState) (w : PlainState) (last : final.Final) → p.threads ≡ [] → p.finally ≡ None → next_of p end ≡ execution.ended → Leading p (start p.main (unbound p)) says end w → last ≡ final_of w.world → IsPlainRun p (numbered_lines 0 1 says) last
 plain_run p says end w last threads finally ends h is =
     let plain = all_numbered IsPlain 0 1 says h.plain in
     record {
@@ -180,8 +180,8 @@ plain_run p says end w last threads finally ends h is =
         runs = alone_run p says end threads finally (ends, h.steps, h.leads);
         history = h.history;
         serial = subst (λ (ws : List what.What). IsSerial (opening_of p) [] ws h.history) (sym (whats_of_numbered 0 1 says)) h.serial;
-        undisturbed = All-weaker (λ (line : Line). IsPlain line.what) (λ (line : Line). IsUndisturbed line.what) (λ line is. is.0) (numbered 0 1 says) plain;
+        undisturbed = All-weaker (λ (line : Line). IsPlain line.what) (λ (line : Line). IsUndisturbed line.what) (λ line is. is.0) (numbered_lines 0 1 says) plain;
         ends = is ∙ ap final_of h.world.0;
       };
-      locked = All-weaker (λ (line : Line). IsPlain line.what) (λ (line : Line). IsLocked line.what) (λ line is. is.1) (numbered 0 1 says) plain;
+      locked = All-weaker (λ (line : Line). IsPlain line.what) (λ (line : Line). IsLocked line.what) (λ line is. is.1) (numbered_lines 0 1 says) plain;
     }

@@ -33,7 +33,7 @@ use Rattle.at_thread.specs.declared.next.ReplyUse as used
 use Rattle.at_script.specs.Parts.{ScriptParts}
 use Rattle.at_thread.specs.Execution.{Variables, ThreadState, Transition, ended, silent, checkpoints, says, asks, taken, next_of, start}
 use Rattle.at_thread.specs.Executions.{can_reply, stands_for, Answers, Fits, Leads}
-use Rattle.at_thread.specs.Runs.{numbered, lines_in_order, whole, Executes, unbound}
+use Rattle.at_thread.specs.Runs.{numbered_lines, lines_in_order, whole, Executes, unbound}
 use Rattle.at_thread.proofs.Numbering.{whats_of_numbered}
 use Rattle.at_run.specs.Opening.{opening_of}
 use Rattle.at_run.specs.PlainRun.{IsUndisturbed, under_locks, line_under_locks, IsSerialRun}
@@ -191,14 +191,14 @@ module _ (s : ScriptParts) (block : List stmt.Stmt) (before first_after second_a
 -- Blocks in order
 
 -- lines of a thread that are the same, paths aside, have the same numbers
-numbered_same : (thread from : ℕ) (first second : List what.What) → map under_locks first ≡ map under_locks second → map line_under_locks (numbered thread from first) ≡ map line_under_locks (numbered thread from second)
+numbered_same : (thread from : ℕ) (first second : List what.What) → map under_locks first ≡ map under_locks second → map line_under_locks (numbered_lines thread from first) ≡ map line_under_locks (numbered_lines thread from second)
 numbered_same thread from [] [] same = refl
 numbered_same thread from [] (v ∷ second) same = absurd cc
 numbered_same thread from (w ∷ first) [] same = absurd cc
 numbered_same thread from (w ∷ first) (v ∷ second) same =
     let heads : under_locks w ≡ under_locks v = cc in
     let rest : map under_locks first ≡ map under_locks second = cc in
-    ap (λ (x : what.What). record { what = x; number = from; thread = thread } ∷ map line_under_locks (numbered thread (suc from) first)) heads
+    ap (λ (x : what.What). record { what = x; number = from; thread = thread } ∷ map line_under_locks (numbered_lines thread (suc from) first)) heads
     ∙ ap (λ ls. record { what = under_locks v; number = from; thread = thread } ∷ ls) (numbered_same thread (suc from) first second rest)
 
 abbrev says_in_order : ℕ → ℕ → (ℕ → List what.What) → List what.What
@@ -208,13 +208,13 @@ says_in_order (suc count) thread told = told thread ++ says_in_order count (suc 
 whats_in_order : (count thread : ℕ) (told : ℕ → List what.What) → map what_of (lines_in_order count thread told) ≡ says_in_order count thread told
 whats_in_order zero thread told = refl
 whats_in_order (suc count) thread told =
-    map-append what_of (numbered thread 1 (told thread)) (lines_in_order count (suc thread) told)
+    map-append what_of (numbered_lines thread 1 (told thread)) (lines_in_order count (suc thread) told)
     ∙ (ap (λ ws. ws ++ map what_of (lines_in_order count (suc thread) told)) (whats_of_numbered thread 1 (told thread)) ∙ ap (λ ws. told thread ++ ws) (whats_in_order count (suc thread) told))
 
 whats_of_whole : (count : ℕ) (told : ℕ → List what.What) → map what_of (whole count told) ≡ told main_thread ++ (says_in_order count 1 told ++ told finally_thread)
 whats_of_whole count told =
-    map-append what_of (lines_in_order (suc count) main_thread told) (numbered finally_thread 1 (told finally_thread))
-    ∙ (ap (λ ws. ws ++ map what_of (numbered finally_thread 1 (told finally_thread))) (whats_in_order (suc count) main_thread told)
+    map-append what_of (lines_in_order (suc count) main_thread told) (numbered_lines finally_thread 1 (told finally_thread))
+    ∙ (ap (λ ws. ws ++ map what_of (numbered_lines finally_thread 1 (told finally_thread))) (whats_in_order (suc count) main_thread told)
     ∙ (ap (λ ws. (told main_thread ++ says_in_order count 1 told) ++ ws) (whats_of_numbered finally_thread 1 (told finally_thread))
     ∙ append_assoc (told main_thread) (says_in_order count 1 told) (told finally_thread)))
 
@@ -236,9 +236,9 @@ module _ (opened : World) (first second : ℕ → List what.What) (one other : L
       let rest = threads_same count (suc thread) l.0 (λ t from below. each t (omega arith) (omega arith)) (subst (λ h. IsSerial opened h (says_in_order count (suc thread) first ++ more_first) one) here.1 k.2) l.2 in
       record {
         lines =
-            map-append line_under_locks (numbered thread 1 (first thread)) (lines_in_order count (suc thread) first)
+            map-append line_under_locks (numbered_lines thread 1 (first thread)) (lines_in_order count (suc thread) first)
             ∙ (ap (λ ls. ls ++ map line_under_locks (lines_in_order count (suc thread) first)) (numbered_same thread 1 (first thread) (second thread) here.0)
-            ∙ (ap (λ ls. map line_under_locks (numbered thread 1 (second thread)) ++ ls) rest.lines ∙ sym (map-append line_under_locks (numbered thread 1 (second thread)) (lines_in_order count (suc thread) second))));
+            ∙ (ap (λ ls. map line_under_locks (numbered_lines thread 1 (second thread)) ++ ls) rest.lines ∙ sym (map-append line_under_locks (numbered_lines thread 1 (second thread)) (lines_in_order count (suc thread) second))));
         middle = rest.middle;
         on = rest.on;
         off = rest.off;
@@ -333,11 +333,11 @@ module _ (s : ScriptParts) (first second : List Line) (first_ends second_ends : 
 
   whole_same : map line_under_locks (whole count ws) ≡ map line_under_locks (whole count vs)
   whole_same =
-      with_parts (numbered main_thread 1 (ws main_thread)) (lines_in_order count 1 ws) (numbered finally_thread 1 (ws finally_thread))
-      ∙ (ap (λ ls. (ls ++ map line_under_locks (lines_in_order count 1 ws)) ++ map line_under_locks (numbered finally_thread 1 (ws finally_thread))) (numbered_same main_thread 1 (ws main_thread) (vs main_thread) main_same.0)
-      ∙ (ap (λ ls. (map line_under_locks (numbered main_thread 1 (vs main_thread)) ++ ls) ++ map line_under_locks (numbered finally_thread 1 (ws finally_thread))) threads.lines
-      ∙ (ap (λ ls. (map line_under_locks (numbered main_thread 1 (vs main_thread)) ++ map line_under_locks (lines_in_order count 1 vs)) ++ ls) (numbered_same finally_thread 1 (ws finally_thread) (vs finally_thread) last_same.0)
-      ∙ sym (with_parts (numbered main_thread 1 (vs main_thread)) (lines_in_order count 1 vs) (numbered finally_thread 1 (vs finally_thread))))))
+      with_parts (numbered_lines main_thread 1 (ws main_thread)) (lines_in_order count 1 ws) (numbered_lines finally_thread 1 (ws finally_thread))
+      ∙ (ap (λ ls. (ls ++ map line_under_locks (lines_in_order count 1 ws)) ++ map line_under_locks (numbered_lines finally_thread 1 (ws finally_thread))) (numbered_same main_thread 1 (ws main_thread) (vs main_thread) main_same.0)
+      ∙ (ap (λ ls. (map line_under_locks (numbered_lines main_thread 1 (vs main_thread)) ++ ls) ++ map line_under_locks (numbered_lines finally_thread 1 (ws finally_thread))) threads.lines
+      ∙ (ap (λ ls. (map line_under_locks (numbered_lines main_thread 1 (vs main_thread)) ++ map line_under_locks (lines_in_order count 1 vs)) ++ ls) (numbered_same finally_thread 1 (ws finally_thread) (vs finally_thread) last_same.0)
+      ∙ sym (with_parts (numbered_lines main_thread 1 (vs main_thread)) (lines_in_order count 1 vs) (numbered_lines finally_thread 1 (vs finally_thread))))))
 
 pub serial_unique : SerialRunsAreOne
 serial_unique s first second first_ends second_ends a b = (

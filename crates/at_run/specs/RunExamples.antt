@@ -38,8 +38,8 @@ last_block = stmts.Get (targets.Var 0) 5 ∷ []
 abbrev pub example_script : ScriptParts
 example_script = record {
   budget = 100;
-  names = tables.opening.names ++ codes "x" ∷ codes "y" ∷ [];
-  classes = tables.opening.classes ++ codes "C" ∷ [];
+  names = tables.initial_tables.names ++ codes "x" ∷ codes "y" ∷ [];
+  classes = tables.initial_tables.classes ++ codes "C" ∷ [];
   vars = codes "a" ∷ codes "b" ∷ [];
   funcs = [];
   bodies = [];

@@ -1,6 +1,8 @@
--- One turn of a thread on the plain data model: what it does to the thread, and to the world.
-use Rattle.std.specs.Prelude.{◌≡◌, ◌≤◌, ℕ, List, [], ◌∷◌, length, All}
+-- private: about the turns of the running code; no public clause cites it. One turn of a thread on the plain data model:
+-- what it does to the thread, and to the world.
+use Rattle.std.specs.Prelude.{◌≡◌, ◌≤◌, ℕ, List, [], ◌∷◌, length, replicate, All, None}
 use Rattle.at_value.specs.declared.operation.Op as op
+use Rattle.at_line.specs.declared.line.Line.{Line}
 use Rattle.at_line.specs.declared.line.LineOp.TheVariants as line_ops
 use Rattle.at_line.specs.declared.line.LineReply.TheVariants as line_replies
 use Rattle.at_line.specs.declared.line.What as what
@@ -13,8 +15,9 @@ use Rattle.at_line.specs.Serial.{IsSerial}
 use Rattle.at_world.specs.Plain.{PlainState, stepped}
 use Rattle.at_script.specs.Parts.{ScriptParts}
 use Rattle.at_thread.specs.Execution as execution
-use Rattle.at_thread.specs.Execution.{next_of, ended}
+use Rattle.at_thread.specs.Execution.{next_of, ended, start}
 use Rattle.at_thread.specs.Executions.{Makes, Leads}
+use Rattle.at_thread.specs.Runs.{numbered_lines}
 use Rattle.at_run.specs.declared.plain_run.Turn as turns_of
 use Rattle.at_run.specs.declared.plain_run.Turn.TheVariants as turns
 use Rattle.at_run.specs.Opening.{opening_of}
@@ -57,3 +60,9 @@ pub record Leading (p : ScriptParts) (s : execution.ThreadState) (lines : List w
   pub short : length history ≤ length lines
   pub plain : All IsPlain lines
   pub world : IsWorldOf (opening_of p) w history
+
+-- The lines are those of the block `main` from its begin to its end, and the world is that after them.
+abbrev pub IsRunOfMain : ScriptParts → List Line → PlainState → Type 0
+IsRunOfMain s lines w =
+    (says : List what.What) × (end : execution.ThreadState) × (lines ≡ numbered_lines 0 1 says) × (next_of s end ≡ ended) ×
+    Leading s (start s.main (replicate (length s.vars) None)) says end w

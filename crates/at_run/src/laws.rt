@@ -7,7 +7,8 @@ pub fn serial_runs_are_events()
     ensures { SerialRunsAreEvents }
 {}
 
-/// A run in which one line is done after another, block by block, is linearized by its places.
+/// A run in which one line is done after another, block by block, of a script with at most 32 threads, is linearized by its
+/// places, and its sections are kept.
 pub fn serial_runs_are_linearized()
     ensures { SerialRunsAreLinearized }
 {}
@@ -19,7 +20,8 @@ pub fn plain_runs_are_one()
     ensures serial { SerialRunsAreOne }
 {}
 
-/// A legal run of a script of one block is its run on the plain data model, whatever its paths.
+/// A legal run of a script of one block, whose budget is at most 100,000, is one in which one line is done after another,
+/// and so its run on the plain data model, whatever its paths.
 pub fn legal_runs_of_one_block_are_serial()
     ensures { LegalRunsOfOneBlockAreSerial }
 {}

@@ -1,14 +1,11 @@
 //! Running the block `main` of a script on the plain data model.
-ghost use Rattle.std.specs.Prelude.{◌≡◌, ◌+◌, ◌*◌, ◌≤◌, [], None, length, replicate, IfOk, List};
-ghost use Rattle.at_line.specs.declared.line.What as what;
+ghost use Rattle.std.specs.Prelude.{◌≡◌, ◌+◌, ◌*◌, ◌≤◌, [], None, replicate, IfOk};
 ghost use Rattle.at_thread.specs.Threads.{state_of};
-ghost use Rattle.at_thread.specs.Execution as execution;
 ghost use Rattle.at_thread.specs.Executions.{Answers};
-ghost use Rattle.at_thread.specs.Runs.{numbered};
 ghost use Rattle.at_script.specs.Limits as limits;
 ghost use Rattle.at_run.specs.Opening.{opening_of};
 ghost use Rattle.at_run.specs.PlainRun.{IsPlainRun};
-ghost use Rattle.at_run.specs.Turns.{IsPlain, Tells, Moves, TellsIn, Leading};
+ghost use Rattle.at_run.specs.Turns.{IsPlain, Tells, Moves, TellsIn, IsRunOfMain};
 
 use at_line::{Line, LineOp, LineReply, MAIN_THREAD, Ran, What};
 use at_script::{Block, Script, Stmt};
@@ -44,7 +41,7 @@ pub fn run_main(alloc: Global, script: &Script) -> Result<Ran, AllocError>
 /// Runs the block `main` to its end: its lines.
 fn run_block(alloc: Global, plain: &mut Plain, script: &Script) -> Result<Vec<Line>, AllocError>
     requires { plain.old ≡ record { world = opening_of script.now; place = 0 } }
-    ensures { IfOk result (λ lines. (says : List what.What) × (end : execution.ThreadState) × (lines.items ≡ numbered 0 1 says) × (execution.next_of script.now end ≡ execution.ended) × Leading script.now (execution.start script.now.main (replicate (length script.now.vars) None)) says end plain.new) }
+    ensures { IfOk result (λ lines. IsRunOfMain script.now lines.items plain.new) }
 {
     let variables = unbound(alloc, script.vars())?;
     let mut thread = Thread::new(alloc, statements_of_main(script), variables)?;
@@ -65,7 +62,6 @@ fn run_block(alloc: Global, plain: &mut Plain, script: &Script) -> Result<Vec<Li
     }
 }
 
-/// The statements of `main`.
 fn statements_of_main(script: &Script) -> &[Stmt]
     ensures { result.now ≡ script.now.main }
 {
@@ -75,7 +71,6 @@ fn statements_of_main(script: &Script) -> &[Stmt]
     }
 }
 
-/// So many variables, none of which is bound.
 fn unbound(alloc: Global, count: usize) -> Result<Vec<Option<Value>>, AllocError>
     ensures { IfOk result (λ variables. variables.items ≡ replicate count None) }
 {
@@ -90,7 +85,6 @@ fn most_lines(script: &Script) -> usize
     2 * script.budget() as usize + 1
 }
 
-/// One turn of a thread.
 fn take_turn<'a>(
     plain: &mut Plain,
     script: &'a Script,

@@ -7,7 +7,7 @@ use Rattle.at_script.specs.declared.tables.Tables.{Tables}
 use Rattle.at_script.specs.declared.stmt.Stmt.{Stmt}
 use Rattle.at_script.specs.Literals.{◌>>=◌}
 use Rattle.at_script.specs.Shapes.{Said, words_say}
-use Rattle.at_script.specs.Tables.{opening, statement_in}
+use Rattle.at_script.specs.Tables.{initial_tables, statement_in}
 use Rattle.at_script.specs.Script.{words_in, before_end, all_say, statements_in, is_this, has_only, after_funcs, funcs_in, with_classes, with_funcs, block_read, script_read, declared_in, script_of_lines}
 use Rattle.at_script.specs.Pieces.{one_part}
 use Rattle.at_name.specs.Texts.{all_interned}
@@ -81,12 +81,12 @@ nothing_before (Some read) = refl
 
 -- The script of the lines is made of the texts with the classes and the functions, and of the statements that are read
 -- line by line.
-pub script_is : (lines main : List (List ℕ)) (t u : Tables) (classes : List (List ℕ)) → after_funcs false lines ≡ Some main → t ≡ opening → all_interned widths.classes t.classes (declared_in lines) ≡ Some classes
+pub script_is : (lines main : List (List ℕ)) (t u : Tables) (classes : List (List ℕ)) → after_funcs false lines ≡ Some main → t ≡ initial_tables → all_interned widths.classes t.classes (declared_in lines) ≡ Some classes
     → with_funcs (record t { classes = classes }) (funcs_in lines) ≡ Some u → script_of_lines lines ≡ (main_of u [] main >>= script_read)
-script_is lines main t u classes after is_opening declared functions =
+script_is lines main t u classes after is_initial declared functions =
     ap (λ o. o >>= (λ m. with_classes lines >>= (λ v. with_funcs v (funcs_in lines) >>= (λ w. block_read w m >>= script_read)))) after
-    ∙ ap (λ o. option_map (λ c. with_classes_of opening c) o >>= (λ v. with_funcs v (funcs_in lines) >>= (λ w. block_read w main >>= script_read))) (ap (λ (v : Tables). all_interned widths.classes v.classes (declared_in lines)) (sym is_opening) ∙ declared)
-    ∙ ap (λ o. o >>= (λ w. block_read w main >>= script_read)) (ap (λ v. with_funcs (with_classes_of v classes) (funcs_in lines)) (sym is_opening) ∙ functions)
+    ∙ ap (λ o. option_map (λ c. with_classes_of initial_tables c) o >>= (λ v. with_funcs v (funcs_in lines) >>= (λ w. block_read w main >>= script_read))) (ap (λ (v : Tables). all_interned widths.classes v.classes (declared_in lines)) (sym is_initial) ∙ declared)
+    ∙ ap (λ o. o >>= (λ w. block_read w main >>= script_read)) (ap (λ v. with_funcs (with_classes_of v classes) (funcs_in lines)) (sym is_initial) ∙ functions)
     ∙ ap (λ o. o >>= script_read) (sym (nothing_before (block_read u main)))
     ∙ ap (λ o. o >>= script_read) (sym (main_is u [] main))
 

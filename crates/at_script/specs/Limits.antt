@@ -18,6 +18,6 @@ most_threads = 32
 abbrev pub usual_budget : ℕ
 usual_budget = 10000
 
--- and at most, in one that says so many
+-- and at most, in one that says a budget
 abbrev pub most_budget : ℕ
 most_budget = 100000

@@ -22,7 +22,7 @@ use Rattle.at_script.specs.Pieces.{is_blank, is_said, is_word, one_part, two_par
 use Rattle.at_name.specs.Texts.{place_of, interned, all_interned}
 use Rattle.at_script.specs.Literals.{◌>>=◌}
 use Rattle.at_script.specs.Shapes.{Said, words_say, declared_by}
-use Rattle.at_script.specs.Tables.{opening, func_at, statement_in}
+use Rattle.at_script.specs.Tables.{initial_tables, func_at, statement_in}
 use Rattle.at_script.specs.Words.{identifier_of}
 
 -- a newline, a tab, a carriage return, or a byte of ASCII that prints
@@ -111,7 +111,7 @@ declared_in lines = filter_map (λ line. declared_by (words_in line)) lines
 -- The texts with `object` and then the classes that the lines declare, each at its first declaration, where they aren't
 -- more than there may be.
 abbrev pub with_classes : List (List ℕ) → Option Tables
-with_classes lines = option_map (λ classes. record opening { classes = classes }) (all_interned widths.classes opening.classes (declared_in lines))
+with_classes lines = option_map (λ classes. record initial_tables { classes = classes }) (all_interned widths.classes initial_tables.classes (declared_in lines))
 
 -- the texts with one more function, where there is room for it and no class and no other function is called as it is
 abbrev pub with_func : Tables → List ℕ → Option Tables

@@ -18,8 +18,8 @@ use Rattle.at_script.specs.Literals.{◌>>=◌, Written, nothing, integer, quote
 use Rattle.at_script.specs.Shapes.{Said, class, put, cut, new, mro, set, del, get, super_read, special, classof}
 
 -- Every script has the class `object` and the special names that attribute access looks up.
-abbrev pub opening : Tables
-opening = record {
+abbrev pub initial_tables : Tables
+initial_tables = record {
   classes = codes "object" ∷ [];
   names = special_texts;
   funcs = [];

@@ -50,7 +50,6 @@ fn function_of(word: &[u8]) -> Option<Option<&str>>
     }
 }
 
-/// The property `P,P,P`.
 fn property_of(word: &[u8]) -> Option<Literal<'_>>
     ensures { option_map written result ≡ property_of word.now }
 {

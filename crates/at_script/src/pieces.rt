@@ -6,20 +6,20 @@ ghost use Rattle.std.specs.List.{slice_split};
 ghost use Rattle.at_script.specs.Pieces.{is_blank, is_said, one_part, two_parts, three_parts};
 ghost use Rattle.at_script.specs.Views.{separates, counts, counted, parts_after, pieces_left, both_now, all_now};
 
-/// What the bytes are parted into.
+/// What the bytes are split into.
 #[derive(Clone, Copy)]
 pub enum Part {
-    /// Lines, which newlines part. One that has no word, or whose first word begins with `#`, is skipped.
+    /// Lines, split at newlines. One that has no word, or whose first word begins with `#`, is skipped.
     Line,
-    /// Words, which spaces, tabs and carriage returns part, one or more.
+    /// Words, split at one or more spaces, tabs and carriage returns.
     Word,
-    /// What dots part.
+    /// What stands between dots.
     Dot,
-    /// What colons part.
+    /// What stands between colons.
     Colon,
-    /// What commas part.
+    /// What stands between commas.
     Comma,
-    /// What double quotes part.
+    /// What stands between double quotes.
     Quote,
 }
 
@@ -30,7 +30,6 @@ pub struct Pieces<'a> {
     rest: Option<&'a [u8]>,
 }
 
-/// A space, a tab or a carriage return.
 fn is_blank(byte: u8) -> bool
     ensures { result ≡ is_blank byte }
 {
@@ -50,7 +49,6 @@ fn is_said(line: &[u8]) -> bool
 }
 
 impl Part {
-    /// Whether the byte stands between two parts.
     fn separates(self, byte: u8) -> bool
         ensures { result ≡ separates self byte }
     {
@@ -153,7 +151,6 @@ fn cut(bytes: &[u8], part: Part) -> (&[u8], Option<&[u8]>)
     }
 }
 
-/// The index of the first separator.
 fn position_of(part: Part, bytes: &[u8]) -> Option<usize>
     ensures { result ≡ position (separates part) bytes.now }
 {

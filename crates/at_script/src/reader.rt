@@ -25,7 +25,7 @@ const BYTES_MOST: usize = 1_048_576;
 
 /// Reads the text of a script, of at most 1,048,576 bytes.
 ///
-/// Lines are parted by newlines, and the words of a line by blanks, which are spaces, tabs and carriage returns; the
+/// Lines are split at newlines, and the words of a line at blanks, which are spaces, tabs and carriage returns; the
 /// other bytes are those of ASCII that print. A line without words, or whose first word begins with `#`, is skipped, but
 /// for the first. The first line is `attrs 1`. Then come functions, which have no statements for now: the line `func F` and
 /// the line `end` for each. The next line is `main`, the last `end`; between them stand statements:
@@ -53,7 +53,6 @@ pub fn read(alloc: Global, bytes: &[u8]) -> Result<Script, ReadFault>
     }
 }
 
-/// The script that the bytes write.
 fn script_in(alloc: Global, bytes: &[u8]) -> Result<Option<Script>, AllocError>
     ensures { IfOk result (λ script. script ≡ script_of bytes.now) }
 {
@@ -66,7 +65,6 @@ fn script_in(alloc: Global, bytes: &[u8]) -> Result<Option<Script>, AllocError>
     }
 }
 
-/// A byte that a script may have.
 fn is_allowed(byte: u8) -> bool
     ensures { result ≡ is_allowed byte }
 {
@@ -79,14 +77,12 @@ fn are_allowed(bytes: &[u8]) -> bool
     bytes.iter().all(|byte| is_allowed(*byte))
 }
 
-/// Whether there are at most 1,048,576 bytes, and only such as a script may have.
 fn is_readable(bytes: &[u8]) -> bool
     ensures { result ≡ is_readable bytes.now }
 {
     bytes.len() <= BYTES_MOST && are_allowed(bytes)
 }
 
-/// Whether the line has this word and no other.
 fn has_only(word: &[u8], line: &[u8]) -> bool
     ensures { result ≡ has_only word.now line.now }
 {
@@ -96,7 +92,6 @@ fn has_only(word: &[u8], line: &[u8]) -> bool
     }
 }
 
-/// Whether the line is `attrs 1`.
 fn is_header(line: &[u8]) -> bool
     ensures { result ≡ is_header line.now }
 {
@@ -117,7 +112,6 @@ fn without_last_newline(bytes: &[u8]) -> &[u8]
     }
 }
 
-/// The lines after the header.
 fn lines_after_header(bytes: &[u8]) -> Option<Pieces<'_>>
     ensures { option_map pieces_left result ≡ headed (lines_of bytes.now) }
 {
@@ -152,14 +146,13 @@ fn after_funcs(mut lines: Pieces<'_>) -> Option<Pieces<'_>>
     None
 }
 
-/// The script of the lines after the header.
 fn script_of_lines(alloc: Global, lines: Pieces<'_>) -> Result<Option<Script>, AllocError>
     ensures { IfOk result (λ script. script ≡ script_of_lines (pieces_left lines.entry)) }
 {
     let Some(main_lines) = after_funcs(lines) else {
         return Ok(None);
     };
-    let mut tables = Tables::opening(alloc)?;
+    let mut tables = Tables::initial(alloc)?;
     if !declare_classes(&mut tables.classes, lines)? {
         return Ok(None);
     }
@@ -244,7 +237,6 @@ fn add_line(tables: &mut Tables, main: &mut Vec<Stmt>, line: &[u8]) -> Result<bo
     Ok(true)
 }
 
-/// The statement of a line.
 fn statement_of(tables: &mut Tables, line: &[u8]) -> Result<Option<Stmt>, AllocError>
     ensures { IfOk result (λ stmt. option_map (λ s. (s, tables.new)) stmt ≡ stated tables.old line.now) }
 {

@@ -7,7 +7,7 @@ ghost use Rattle.at_script.specs.Literals.{quoted, named, static, classm, prop};
 ghost use Rattle.at_script.specs.Shapes.{class, put, cut, new, mro, set, del, get, super_read, special, classof};
 ghost use Rattle.at_script.specs.Views.{written, pieces_left, said};
 ghost use Rattle.at_script.specs.Script.{with_func};
-ghost use Rattle.at_script.specs.Tables.{opening, class_at, bases_at, func_at, variable_in, name_in, target_in, attribute_in, part_at, property_at, operand_in, given_in, statement_in};
+ghost use Rattle.at_script.specs.Tables.{initial_tables, class_at, bases_at, func_at, variable_in, name_in, target_in, attribute_in, part_at, property_at, operand_in, given_in, statement_in};
 
 use crate::literal::Literal;
 use crate::pieces::Pieces;
@@ -42,8 +42,8 @@ pub struct Tables {
 
 impl Tables {
     /// The class `object` and the special names, which every script has.
-    pub fn opening(alloc: Global) -> Result<Tables, AllocError>
-        ensures { IfOk result (λ tables. tables ≡ opening) }
+    pub fn initial(alloc: Global) -> Result<Tables, AllocError>
+        ensures { IfOk result (λ tables. tables ≡ initial_tables) }
     {
         let mut tables = Tables {
             classes: Texts::new(alloc),
@@ -55,7 +55,6 @@ impl Tables {
         Ok(tables)
     }
 
-    /// The class that the word stands for.
     fn class_at(&self, word: &[u8]) -> Option<Class>
         ensures { result ≡ class_at self.now word.now }
     {
@@ -78,7 +77,6 @@ impl Tables {
         }
     }
 
-    /// The function that the text is declared for.
     fn func_at(&self, text: &str) -> Option<Func>
         ensures { result ≡ func_at self.now text.now }
     {
@@ -86,7 +84,6 @@ impl Tables {
         Func::new(place as u16)
     }
 
-    /// Whether a class or a function is called so.
     fn is_declared(&self, text: &str) -> bool
         ensures { result ≡ (is_some (place_of text.now self.now.classes) || is_some (func_at self.now text.now)) }
     {
@@ -117,7 +114,6 @@ impl Tables {
         }
     }
 
-    /// The number of the name of an attribute or of a text.
     fn name(&mut self, text: &str) -> Result<Option<Name>, AllocError>
         ensures { IfOk result (λ name. option_map (λ n. (n, self.new)) name ≡ name_in self.old text.now) }
     {
@@ -141,7 +137,6 @@ impl Tables {
         }
     }
 
-    /// The owner of an attribute, and the name of the attribute.
     fn attribute(&mut self, owner: &str, name: &str) -> Result<Option<(Target, Name)>, AllocError>
         ensures { IfOk result (λ place. option_map (λ p. (p, self.new)) place ≡ attribute_in self.old owner.now name.now) }
     {
@@ -170,7 +165,6 @@ impl Tables {
         }
     }
 
-    /// A function of a property, where it has one.
     fn part_at(&self, text: Option<&str>) -> Option<Option<Func>>
         ensures { result ≡ part_at self.now (option_copied text.entry) }
     {
@@ -221,7 +215,6 @@ impl Tables {
         }
     }
 
-    /// The operand that a value is.
     fn operand(&mut self, literal: Literal<'_>) -> Result<Option<Operand>, AllocError>
         ensures { IfOk result (λ value. option_map (λ v. (v, self.new)) value ≡ operand_in self.old (written literal.entry)) }
     {
@@ -236,7 +229,6 @@ impl Tables {
         }
     }
 
-    /// The operand that a value is, where it isn't left out.
     fn given(&mut self, literal: Option<Literal<'_>>) -> Result<Option<Option<Operand>>, AllocError>
         ensures { IfOk result (λ value. option_map (λ v. (v, self.new)) value ≡ given_in self.old (option_map written literal.entry)) }
     {
@@ -405,7 +397,6 @@ impl Tables {
     }
 }
 
-/// A class as what a statement works on.
 fn target_class(place: usize) -> Option<Target>
     requires { place < widths.classes }
     ensures { result ≡ Some (Target.Class place) }
@@ -413,7 +404,6 @@ fn target_class(place: usize) -> Option<Target>
     Some(Target::Class(Class::new(place as u16)?))
 }
 
-/// A class as a value.
 fn class_value(place: usize) -> Option<Operand>
     requires { place < widths.classes }
     ensures { result ≡ Some (Operand.Value (Value.Class place)) }

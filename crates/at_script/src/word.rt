@@ -36,7 +36,6 @@ fn all_continue_identifier(bytes: &[u8]) -> bool
     bytes.iter().all(|byte| continues_identifier(*byte))
 }
 
-/// An identifier as text.
 fn text_of(word: &[u8]) -> &str
     requires { IsTrue (has_identifier_form word.now) }
     ensures { result.now ≡ word.now }
@@ -44,7 +43,6 @@ fn text_of(word: &[u8]) -> &str
     unsafe { str::from_utf8_unchecked(word) }
 }
 
-/// Whether scripts use the word for something else than a name.
 fn is_reserved(word: &[u8]) -> bool
     ensures { result ≡ is_reserved word.now }
 {
@@ -70,7 +68,6 @@ fn is_system_name(word: &[u8]) -> bool
     word.starts_with(b"__") && word.ends_with(b"__")
 }
 
-/// Whether the word is a name that attribute access looks up.
 fn is_access_name(word: &[u8]) -> bool
     ensures { result ≡ is_access_name word.now }
 {
@@ -102,14 +99,12 @@ fn is_open_name(word: &[u8]) -> bool
     !is_system_name(word) || is_access_name(word) || is_method_name(word)
 }
 
-/// Whether the word may name an attribute.
 fn is_attribute_name(word: &[u8]) -> bool
     ensures { result ≡ is_attribute_name word.now }
 {
     is_identifier(word) && word != b"mro".as_slice() && is_open_name(word)
 }
 
-/// Whether the word may stand for a class.
 fn is_class_word(word: &[u8]) -> bool
     ensures { result ≡ is_class_word word.now }
 {

@@ -8,7 +8,7 @@ use Rattle.at_line.specs.declared.line.What as what
 use Rattle.at_line.specs.Lines.{main_thread, finally_thread}
 use Rattle.at_line.specs.Kept.{whats_of_thread}
 use Rattle.at_script.specs.Parts.{ScriptParts}
-use Rattle.at_thread.specs.Runs.{numbered, lines_in_order, whole, IsRunOf}
+use Rattle.at_thread.specs.Runs.{numbered_lines, lines_in_order, whole, IsRunOf}
 use Rattle.at_thread.proofs.Numbering.{number_at}
 use Rattle.at_thread.proofs.Alone.{numbered_length}
 
@@ -20,19 +20,19 @@ of_both : (thread : ℕ) (first second : List Line) → of thread (first ++ seco
 of_both thread first second = filter-append (λ (l : Line). l.thread == thread) first second
 
 -- a thread's numbered lines are its own
-of_own : (thread from : ℕ) (says : List what.What) → of thread (numbered thread from says) ≡ numbered thread from says
+of_own : (thread from : ℕ) (says : List what.What) → of thread (numbered_lines thread from says) ≡ numbered_lines thread from says
 of_own thread from [] = refl
 of_own thread from (w ∷ says) =
     let line : Line = record { what = w; number = from; thread = thread } in
-    ap (λ b. cond b (line ∷ of thread (numbered thread (suc from) says)) (of thread (numbered thread (suc from) says))) (eq-eqb thread thread refl)
+    ap (λ b. cond b (line ∷ of thread (numbered_lines thread (suc from) says)) (of thread (numbered_lines thread (suc from) says))) (eq-eqb thread thread refl)
     ∙ ap (λ rest. line ∷ rest) (of_own thread (suc from) says)
 
 -- and no other's
-of_other : (thread other from : ℕ) (says : List what.What) → (other == thread) ≡ false → of thread (numbered other from says) ≡ []
+of_other : (thread other from : ℕ) (says : List what.What) → (other == thread) ≡ false → of thread (numbered_lines other from says) ≡ []
 of_other thread other from [] e = refl
 of_other thread other from (w ∷ says) e =
     let line : Line = record { what = w; number = from; thread = other } in
-    ap (λ b. cond b (line ∷ of thread (numbered other (suc from) says)) (of thread (numbered other (suc from) says))) e ∙ of_other thread other (suc from) says e
+    ap (λ b. cond b (line ∷ of thread (numbered_lines other (suc from) says)) (of thread (numbered_lines other (suc from) says))) e ∙ of_other thread other (suc from) says e
 
 -- what stands in the lines of a thread is as long as these
 as_long : (thread : ℕ) (lines : List Line) → length (whats_of_thread thread lines) ≡ length (of thread lines)
@@ -46,26 +46,26 @@ as_long thread (line ∷ lines) = tests (line.thread == thread) (as_long thread 
 
 -- no lines, or those of the thread once
 abbrev IsOnce : ℕ → (ℕ → List what.What) → List Line → Type 0
-IsOnce thread says lines = (lines ≡ []) ⊎ (lines ≡ numbered thread 1 (says thread))
+IsOnce thread says lines = (lines ≡ []) ⊎ (lines ≡ numbered_lines thread 1 (says thread))
 
 none_below : (thread count first : ℕ) (says : ℕ → List what.What) → thread < first → of thread (lines_in_order count first says) ≡ []
 none_below thread zero first says below = refl
 none_below thread (suc count) first says below =
-    of_both thread (numbered first 1 (says first)) (lines_in_order count (suc first) says)
+    of_both thread (numbered_lines first 1 (says first)) (lines_in_order count (suc first) says)
     ∙ ap (λ l. l ++ of thread (lines_in_order count (suc first) says)) (of_other thread first 1 (says first) (ne_eqb first thread (λ same. omega arith)))
     ∙ none_below thread count (suc first) says (omega arith)
 
 once_in_order : (thread count first : ℕ) (says : ℕ → List what.What) → IsOnce thread says (of thread (lines_in_order count first says))
 once_in_order thread zero first says = inl refl
 once_in_order thread (suc count) first says =
-    subst (IsOnce thread says) (sym (of_both thread (numbered first 1 (says first)) (lines_in_order count (suc first) says))) (tests (first == thread) refl (once_in_order thread count (suc first) says))
+    subst (IsOnce thread says) (sym (of_both thread (numbered_lines first 1 (says first)) (lines_in_order count (suc first) says))) (tests (first == thread) refl (once_in_order thread count (suc first) says))
   where
-    tests : (b : Bool) → (first == thread) ≡ b → IsOnce thread says (of thread (lines_in_order count (suc first) says)) → IsOnce thread says (of thread (numbered first 1 (says first)) ++ of thread (lines_in_order count (suc first) says))
+    tests : (b : Bool) → (first == thread) ≡ b → IsOnce thread says (of thread (lines_in_order count (suc first) says)) → IsOnce thread says (of thread (numbered_lines first 1 (says first)) ++ of thread (lines_in_order count (suc first) says))
     tests false other rest = subst (λ l. IsOnce thread says (l ++ of thread (lines_in_order count (suc first) says))) (sym (of_other thread first 1 (says first) other)) rest
     tests true is rest =
         let same : first ≡ thread = eqb-true first thread is in
-        inr (ap (λ l. of thread (numbered first 1 (says first)) ++ l) (none_below thread count (suc first) says (omega arith)) ∙ append-nil (of thread (numbered first 1 (says first)))
-        ∙ subst (λ t. of t (numbered first 1 (says first)) ≡ numbered t 1 (says t)) same (of_own first 1 (says first)))
+        inr (ap (λ l. of thread (numbered_lines first 1 (says first)) ++ l) (none_below thread count (suc first) says (omega arith)) ∙ append-nil (of thread (numbered_lines first 1 (says first)))
+        ∙ subst (λ t. of t (numbered_lines first 1 (says first)) ≡ numbered_lines t 1 (says t)) same (of_own first 1 (says first)))
 
 nothing : (lines : List Line) → length lines ≡ 0 → lines ≡ []
 nothing [] none = refl
@@ -76,7 +76,7 @@ abbrev first_of : ℕ → (ℕ → List what.What) → List Line
 first_of count says = lines_in_order (suc count) main_thread says
 
 abbrev last_of : (ℕ → List what.What) → List Line
-last_of says = numbered finally_thread 1 (says finally_thread)
+last_of says = numbered_lines finally_thread 1 (says finally_thread)
 
 -- Were a thread of the script to have the number of `finally`, both would have no line.
 once_in_whole : (count thread : ℕ) (says : ℕ → List what.What) (lines : List Line) → lines ≡ whole count says → length (says thread) ≡ length (of thread lines) → IsOnce thread says (of thread lines)
@@ -90,7 +90,7 @@ once_in_whole count thread says lines order long = tests (finally_thread == thre
         subst (IsOnce thread says) (sym (both ∙ ap (λ l. of thread (first_of count says) ++ l) (of_other thread finally_thread 1 (says finally_thread) other) ∙ append-nil (of thread (first_of count says))))
         (once_in_order thread (suc count) main_thread says)
     tests true is =
-        let own : of thread (last_of says) ≡ numbered thread 1 (says thread) = subst (λ t. of t (last_of says) ≡ numbered t 1 (says t)) (eqb-true finally_thread thread is) (of_own finally_thread 1 (says finally_thread)) in
+        let own : of thread (last_of says) ≡ numbered_lines thread 1 (says thread) = subst (λ t. of t (last_of says) ≡ numbered_lines t 1 (says t)) (eqb-true finally_thread thread is) (of_own finally_thread 1 (says finally_thread)) in
         elim (once_in_order thread (suc count) main_thread says) [
           | inl none ↦ inr (both ∙ ap (λ l. l ++ of thread (last_of says)) none ∙ own)
           | inr some ↦ inl (nothing (of thread lines) (

@@ -33,12 +33,12 @@ spare (f ∷ fs) = 0
 abbrev pub size : ScriptParts → ThreadState → ℕ
 size p s = 3 * (p.budget - s.begun) + length s.frames + 2 * pending s.call
 
--- so many lines led here
+-- a number of lines led here
 pub record Few (p : ScriptParts) (lines : ℕ) (s : ThreadState) : Type 0 where
   pub few : lines + pending s.call ≤ 2 * s.begun + spare s.frames
   pub within : s.begun ≤ p.budget
 
--- the state is smaller than n, and so many lines led here
+-- the state is smaller than n, and a number of lines led here
 pub record Onward (p : ScriptParts) (n lines : ℕ) (t : ThreadState) : Type 0 where
   pub smaller : size p t < n
   pub few : Few p lines t

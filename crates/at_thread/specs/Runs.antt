@@ -10,18 +10,18 @@ use Rattle.at_thread.specs.Execution.{Variables, ThreadState, start}
 use Rattle.at_thread.specs.Executions.{IsExecution}
 
 -- the lines of a thread that say this, numbered from this number on
-abbrev pub numbered : ℕ → ℕ → List what.What → List Line
-numbered thread number [] = []
-numbered thread number (w ∷ more) = record { what = w; number = number; thread = thread } ∷ numbered thread (suc number) more
+abbrev pub numbered_lines : ℕ → ℕ → List what.What → List Line
+numbered_lines thread number [] = []
+numbered_lines thread number (w ∷ more) = record { what = w; number = number; thread = thread } ∷ numbered_lines thread (suc number) more
 
--- the lines of so many threads from this one on, one thread after another, each numbered from 1
+-- the lines of count threads from this one on, one thread after another, each numbered from 1
 abbrev pub lines_in_order : ℕ → ℕ → (ℕ → List what.What) → List Line
 lines_in_order zero thread says = []
-lines_in_order (suc count) thread says = numbered thread 1 (says thread) ++ lines_in_order count (suc thread) says
+lines_in_order (suc count) thread says = numbered_lines thread 1 (says thread) ++ lines_in_order count (suc thread) says
 
--- the lines of `main`, of so many threads from 1 on, and of `finally`
+-- the lines of `main`, of count threads from 1 on, and of `finally`
 abbrev pub whole : ℕ → (ℕ → List what.What) → List Line
-whole count says = lines_in_order (suc count) main_thread says ++ numbered finally_thread 1 (says finally_thread)
+whole count says = lines_in_order (suc count) main_thread says ++ numbered_lines finally_thread 1 (says finally_thread)
 
 -- The lines are an execution of the block that begins with these variables and ends with those.
 pub record Executes (s : ScriptParts) (block : List stmt.Stmt) (before : Variables) (lines : List what.What) (after : Variables) : Type 0 where

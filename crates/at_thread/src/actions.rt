@@ -9,7 +9,6 @@ use at_line::{LineOp, Local};
 use at_script::{Script, Stmt};
 use at_value::Op;
 
-/// Asks for an operation of the data model.
 fn asking(op: Op, reply_use: ReplyUse) -> Action
     ensures { result ≡ execution.asking op reply_use }
 {

@@ -29,7 +29,6 @@ pub(crate) struct Frame<'a> {
 }
 
 impl<'a> Frame<'a> {
-    /// The same frame with these statements left.
     fn with_rest(&self, rest: &'a [Stmt]) -> Frame<'a>
         ensures { frame_of result ≡ record (frame_of self.now) { rest = rest.now } }
     {
@@ -91,7 +90,6 @@ impl<'a> Thread<'a> {
         &self.variables
     }
 
-    /// A block or a call has ended with this value.
     fn end(&mut self, on_return: &OnReturn, value: Value)
         ensures { state_of self.new ≡ execution.returned on_return.now value (state_of self.old) }
     {
@@ -202,7 +200,6 @@ impl<'a> Thread<'a> {
         self.next_of_statement(script, &frame.with_rest(rest), stmt)
     }
 
-    /// Begins a call.
     fn next_of_call(&mut self, script: &'a Script, call: &Call) -> Next
         ensures { IsNext (execution.call_next script.now (state_of self.old) call.now call.now.callee) result self.new }
     {

@@ -3,6 +3,7 @@ use Rattle.std.proofs.Common.{◌≡◌, ap, sym, refl, ℕ, List, [], Option, S
 use Rattle.std.specs.Option.{option_and_then}
 use Rattle.at_script.specs.declared.tables.Tables.{Tables}
 use Rattle.at_script.specs.declared.stmt.Stmt.{Stmt}
+use Rattle.at_script.specs.Limits.{usual_budget}
 use Rattle.at_script.specs.Parts.{ScriptParts, script_with}
 use Rattle.at_script.specs.Script.{script_of, script_of_lines, headed, lines_of, is_readable, after_funcs, with_classes, with_funcs, funcs_in, block_read, script_read}
 
@@ -16,7 +17,7 @@ IsAlone s = (s.threads ≡ []) × (s.finally ≡ None)
 
 read_alone : (read : List Stmt × Tables) (s : ScriptParts) → script_read read ≡ Some s → IsAlone s
 read_alone read s is =
-    let same : script_with 10000 read.0 read.1 ≡ s = cc in
+    let same : script_with usual_budget read.0 read.1 ≡ s = cc in
     (sym (ap (λ (p : ScriptParts). p.threads) same), sym (ap (λ (p : ScriptParts). p.finally) same))
 
 lines_alone : (lines : List (List ℕ)) (s : ScriptParts) → script_of_lines lines ≡ Some s → IsAlone s

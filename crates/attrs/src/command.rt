@@ -49,14 +49,12 @@ pub fn attrs<R: Wait + Threads + Sync, S: Source, K: Sink, G: Gate + Sync>(
     }
 }
 
-/// Whether the words are `run` alone.
 fn is_run(words: &[String]) -> bool
     ensures { IsTrue result ↔ (map string_bytes words.now ≡ codes "run" ∷ []) }
 {
     words.len() == 1 && words[0].as_str() == "run"
 }
 
-/// Writes the usage line.
 fn usage<K: Sink>(out: &mut K) -> Status
     ensures answer { (r : SourceChange) → ReadNothing r →
         IsUsageAnswer r (sink_change K.written K.is_flushed K.faults out.old out.new) result }
@@ -84,7 +82,6 @@ pub fn plain_text<S: Source, K: Sink>(alloc: Global, src: &mut S, out: &mut K) -
     }
 }
 
-/// Writes that the input is too long for a script.
 fn too_long<K: Sink>(out: &mut K) -> Status
     ensures answer { (r : SourceChange) → ReadTooMany r →
         IsAnswer IsPlainRun r (sink_change K.written K.is_flushed K.faults out.old out.new) result }
@@ -109,7 +106,6 @@ fn answer<K: Sink>(alloc: Global, bytes: &[u8], out: &mut K) -> Status
     }
 }
 
-/// Runs the script of these bytes, and writes the transcript.
 fn transcribe<K: Sink>(alloc: Global, bytes: &[u8], script: &Script, out: &mut K) -> Status
     requires { script_of bytes.now ≡ Some script.now }
     ensures answer { IsTextAnswer IsPlainRun bytes.now
@@ -126,7 +122,6 @@ fn transcribe<K: Sink>(alloc: Global, bytes: &[u8], script: &Script, out: &mut K
     }
 }
 
-/// Writes why the bytes are no script.
 fn refuse<K: Sink>(alloc: Global, line: u32, cause: Cause, out: &mut K) -> Status
     ensures refused { result ≡ Status.Refused line cause →
         Wrote (sink_change K.written K.is_flushed K.faults out.old out.new) (refusal_text line cause) }

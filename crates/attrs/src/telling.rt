@@ -37,7 +37,6 @@ pub fn refusal(alloc: Global, line: u32, cause: Cause) -> Result<Vec<u8>, AllocE
     Ok(text)
 }
 
-/// The word of a cause.
 fn cause_word(cause: Cause) -> &'static str
     ensures { result.now ≡ answers.cause_word cause }
 {

@@ -50,7 +50,7 @@ const LIMITS: [Limit; 4] = [
     },
 ];
 
-/// The script of so many lines.
+/// The script of this many lines.
 fn script_of_lines(alloc: Global, limit: &Limit, lines: u32) -> Result<String, AllocError> {
     let mut text = format!(in alloc; "attrs 1\n{}", limit.head)?;
     for i in 0..lines {
@@ -60,7 +60,7 @@ fn script_of_lines(alloc: Global, limit: &Limit, lines: u32) -> Result<String, A
     Ok(text)
 }
 
-/// Whether so many lines are a script.
+/// Whether this many lines are a script.
 fn fits(alloc: Global, limit: &Limit, lines: u32) -> Result<bool, Fail> {
     let text = script_of_lines(alloc, limit, lines)?;
     is_script(alloc, text.as_bytes())

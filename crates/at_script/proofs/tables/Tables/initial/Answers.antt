@@ -1,7 +1,7 @@
 use Rattle.std.proofs.Common.{refl, [], ◌∷◌, codes}
 use Rattle.at_value.specs.Widths as widths
 use Rattle.at_name.proofs.Tables.{left_by}
-use Rattle.at_script.proofs.tables.Tables.opening.Goals as goal
+use Rattle.at_script.proofs.tables.Tables.initial.Goals as goal
 
 pub returns : goal.returns
 returns c =
