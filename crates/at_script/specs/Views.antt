@@ -9,6 +9,7 @@ use Rattle.at_script.specs.declared.pieces.Pieces.{Pieces}
 use Rattle.at_script.specs.declared.literal.Literal.{Literal}
 use Rattle.at_script.specs.declared.literal.Literal.TheVariants as literals
 use Rattle.at_script.specs.declared.shape.Shape.{Shape}
+use Rattle.at_script.specs.declared.tables.Tables.{Tables}
 use Rattle.at_script.specs.declared.shape.Shape.TheVariants as shapes
 use Rattle.at_script.specs.Bytes as bytes
 use Rattle.at_script.specs.Pieces.{is_blank, is_said, is_word}
@@ -83,3 +84,9 @@ said (shapes.Get r x) = get r.now x.now
 said (shapes.Super c r x) = super_read c.now r.now x.now
 said (shapes.Special r x) = special r.now x.now
 said (shapes.ClassOf r) = classof r.now
+
+-- Tables
+
+-- what was found, where there is something, and the tables after it
+abbrev pub in_tables : {A : Type 0} → Option A → Tables → Option (A × Tables)
+in_tables found tables = option_map (λ x. (x, tables)) found

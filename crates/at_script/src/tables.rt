@@ -5,7 +5,7 @@ ghost use Rattle.at_value.specs.Widths as widths;
 ghost use Rattle.at_name.specs.Texts.{place_of};
 ghost use Rattle.at_script.specs.Literals.{quoted, named, static, classm, prop};
 ghost use Rattle.at_script.specs.Shapes.{class, put, cut, new, mro, set, del, get, super_read, special, classof};
-ghost use Rattle.at_script.specs.Views.{written, pieces_left, said};
+ghost use Rattle.at_script.specs.Views.{written, pieces_left, said, in_tables};
 ghost use Rattle.at_script.specs.Script.{with_func};
 ghost use Rattle.at_script.specs.Tables.{initial_tables, class_at, bases_at, func_at, variable_in, name_in, target_in, attribute_in, part_at, property_at, operand_in, given_in, statement_in};
 
@@ -103,7 +103,7 @@ impl Tables {
 
     /// The number of a variable, which no class and no function may be called by too.
     fn variable(&mut self, text: &str) -> Result<Option<u16>, AllocError>
-        ensures { IfOk result (λ number. option_map (λ n. (n, self.new)) number ≡ variable_in self.old text.now) }
+        ensures { IfOk result (λ number. in_tables number self.new ≡ variable_in self.old text.now) }
     {
         if self.is_declared(text) {
             return Ok(None);
@@ -115,7 +115,7 @@ impl Tables {
     }
 
     fn name(&mut self, text: &str) -> Result<Option<Name>, AllocError>
-        ensures { IfOk result (λ name. option_map (λ n. (n, self.new)) name ≡ name_in self.old text.now) }
+        ensures { IfOk result (λ name. in_tables name self.new ≡ name_in self.old text.now) }
     {
         match self.names.intern(text) {
             Ok(name) => Ok(Some(name)),
@@ -126,7 +126,7 @@ impl Tables {
 
     /// What a statement works on: the class that the text names, or else the variable.
     fn target(&mut self, text: &str) -> Result<Option<Target>, AllocError>
-        ensures { IfOk result (λ target. option_map (λ x. (x, self.new)) target ≡ target_in self.old text.now) }
+        ensures { IfOk result (λ target. in_tables target self.new ≡ target_in self.old text.now) }
     {
         if let Some(place) = self.classes.place_of(text) {
             return Ok(target_class(place));
@@ -138,7 +138,7 @@ impl Tables {
     }
 
     fn attribute(&mut self, owner: &str, name: &str) -> Result<Option<(Target, Name)>, AllocError>
-        ensures { IfOk result (λ place. option_map (λ p. (p, self.new)) place ≡ attribute_in self.old owner.now name.now) }
+        ensures { IfOk result (λ place. in_tables place self.new ≡ attribute_in self.old owner.now name.now) }
     {
         let Some(target) = self.target(owner)? else {
             return Ok(None);
@@ -151,7 +151,7 @@ impl Tables {
 
     /// The value that the text names: a class, a function or else a variable.
     fn named_value(&mut self, text: &str) -> Result<Option<Operand>, AllocError>
-        ensures { IfOk result (λ value. option_map (λ v. (v, self.new)) value ≡ operand_in self.old (named text.now)) }
+        ensures { IfOk result (λ value. in_tables value self.new ≡ operand_in self.old (named text.now)) }
     {
         if let Some(place) = self.classes.place_of(text) {
             return Ok(class_value(place));
@@ -189,25 +189,25 @@ impl Tables {
         set: Option<&str>,
         del: Option<&str>,
     ) -> Option<Operand>
-        ensures { option_map (λ v. (v, self.now)) result ≡ operand_in self.now (prop (option_copied get.entry) (option_copied set.entry) (option_copied del.entry)) }
+        ensures { in_tables result self.now ≡ operand_in self.now (prop (option_copied get.entry) (option_copied set.entry) (option_copied del.entry)) }
     {
         Some(Operand::Value(self.property_at(get, set, del)?))
     }
 
     fn static_value(&self, text: &str) -> Option<Operand>
-        ensures { option_map (λ v. (v, self.now)) result ≡ operand_in self.now (static text.now) }
+        ensures { in_tables result self.now ≡ operand_in self.now (static text.now) }
     {
         Some(Operand::Value(Value::Static(self.func_at(text)?)))
     }
 
     fn class_method_value(&self, text: &str) -> Option<Operand>
-        ensures { option_map (λ v. (v, self.now)) result ≡ operand_in self.now (classm text.now) }
+        ensures { in_tables result self.now ≡ operand_in self.now (classm text.now) }
     {
         Some(Operand::Value(Value::ClassM(self.func_at(text)?)))
     }
 
     fn text_value(&mut self, text: &str) -> Result<Option<Operand>, AllocError>
-        ensures { IfOk result (λ value. option_map (λ v. (v, self.new)) value ≡ operand_in self.old (quoted text.now)) }
+        ensures { IfOk result (λ value. in_tables value self.new ≡ operand_in self.old (quoted text.now)) }
     {
         match self.name(text)? {
             Some(name) => Ok(Some(Operand::Value(Value::Text(name)))),
@@ -216,7 +216,7 @@ impl Tables {
     }
 
     fn operand(&mut self, literal: Literal<'_>) -> Result<Option<Operand>, AllocError>
-        ensures { IfOk result (λ value. option_map (λ v. (v, self.new)) value ≡ operand_in self.old (written literal.entry)) }
+        ensures { IfOk result (λ value. in_tables value self.new ≡ operand_in self.old (written literal.entry)) }
     {
         match literal {
             Literal::Nothing => Ok(Some(Operand::Value(Value::Nothing))),
@@ -230,7 +230,7 @@ impl Tables {
     }
 
     fn given(&mut self, literal: Option<Literal<'_>>) -> Result<Option<Option<Operand>>, AllocError>
-        ensures { IfOk result (λ value. option_map (λ v. (v, self.new)) value ≡ given_in self.old (option_map written literal.entry)) }
+        ensures { IfOk result (λ value. in_tables value self.new ≡ given_in self.old (option_map written literal.entry)) }
     {
         match literal {
             Some(literal) => match self.operand(literal)? {
@@ -242,7 +242,7 @@ impl Tables {
     }
 
     fn class(&self, text: &str, bases: Pieces<'_>) -> Option<Stmt>
-        ensures { option_map (λ s. (s, self.now)) result ≡ statement_in self.now (class text.now (pieces_left bases.entry)) }
+        ensures { in_tables result self.now ≡ statement_in self.now (class text.now (pieces_left bases.entry)) }
     {
         let class = self.class_at(text.as_bytes())?;
         Some(Stmt::Class(class, self.bases_at(bases)?))
@@ -254,7 +254,7 @@ impl Tables {
         name: &str,
         value: Literal<'_>,
     ) -> Result<Option<Stmt>, AllocError>
-        ensures { IfOk result (λ stmt. option_map (λ s. (s, self.new)) stmt ≡ statement_in self.old (put class.now name.now (written value.entry))) }
+        ensures { IfOk result (λ stmt. in_tables stmt self.new ≡ statement_in self.old (put class.now name.now (written value.entry))) }
     {
         let Some(class) = self.class_at(class) else {
             return Ok(None);
@@ -269,7 +269,7 @@ impl Tables {
     }
 
     fn cut(&mut self, class: &[u8], name: &str) -> Result<Option<Stmt>, AllocError>
-        ensures { IfOk result (λ stmt. option_map (λ s. (s, self.new)) stmt ≡ statement_in self.old (cut class.now name.now)) }
+        ensures { IfOk result (λ stmt. in_tables stmt self.new ≡ statement_in self.old (cut class.now name.now)) }
     {
         let Some(class) = self.class_at(class) else {
             return Ok(None);
@@ -286,7 +286,7 @@ impl Tables {
         class: &[u8],
         given: Option<Literal<'_>>,
     ) -> Result<Option<Stmt>, AllocError>
-        ensures { IfOk result (λ stmt. option_map (λ s. (s, self.new)) stmt ≡ statement_in self.old (new variable.now class.now (option_map written given.entry))) }
+        ensures { IfOk result (λ stmt. in_tables stmt self.new ≡ statement_in self.old (new variable.now class.now (option_map written given.entry))) }
     {
         let Some(class) = self.class_at(class) else {
             return Ok(None);
@@ -301,7 +301,7 @@ impl Tables {
     }
 
     fn mro(&self, class: &[u8]) -> Option<Stmt>
-        ensures { option_map (λ s. (s, self.now)) result ≡ statement_in self.now (mro class.now) }
+        ensures { in_tables result self.now ≡ statement_in self.now (mro class.now) }
     {
         Some(Stmt::Mro(self.class_at(class)?))
     }
@@ -312,7 +312,7 @@ impl Tables {
         name: &str,
         value: Literal<'_>,
     ) -> Result<Option<Stmt>, AllocError>
-        ensures { IfOk result (λ stmt. option_map (λ s. (s, self.new)) stmt ≡ statement_in self.old (set owner.now name.now (written value.entry))) }
+        ensures { IfOk result (λ stmt. in_tables stmt self.new ≡ statement_in self.old (set owner.now name.now (written value.entry))) }
     {
         let Some((target, name)) = self.attribute(owner, name)? else {
             return Ok(None);
@@ -324,7 +324,7 @@ impl Tables {
     }
 
     fn del(&mut self, owner: &str, name: &str) -> Result<Option<Stmt>, AllocError>
-        ensures { IfOk result (λ stmt. option_map (λ s. (s, self.new)) stmt ≡ statement_in self.old (del owner.now name.now)) }
+        ensures { IfOk result (λ stmt. in_tables stmt self.new ≡ statement_in self.old (del owner.now name.now)) }
     {
         let Some((target, name)) = self.attribute(owner, name)? else {
             return Ok(None);
@@ -333,7 +333,7 @@ impl Tables {
     }
 
     fn get(&mut self, owner: &str, name: &str) -> Result<Option<Stmt>, AllocError>
-        ensures { IfOk result (λ stmt. option_map (λ s. (s, self.new)) stmt ≡ statement_in self.old (get owner.now name.now)) }
+        ensures { IfOk result (λ stmt. in_tables stmt self.new ≡ statement_in self.old (get owner.now name.now)) }
     {
         let Some((target, name)) = self.attribute(owner, name)? else {
             return Ok(None);
@@ -347,7 +347,7 @@ impl Tables {
         owner: &str,
         name: &str,
     ) -> Result<Option<Stmt>, AllocError>
-        ensures { IfOk result (λ stmt. option_map (λ s. (s, self.new)) stmt ≡ statement_in self.old (super_read class.now owner.now name.now)) }
+        ensures { IfOk result (λ stmt. in_tables stmt self.new ≡ statement_in self.old (super_read class.now owner.now name.now)) }
     {
         let Some(class) = self.class_at(class) else {
             return Ok(None);
@@ -359,7 +359,7 @@ impl Tables {
     }
 
     fn special(&mut self, owner: &str, name: &str) -> Result<Option<Stmt>, AllocError>
-        ensures { IfOk result (λ stmt. option_map (λ s. (s, self.new)) stmt ≡ statement_in self.old (special owner.now name.now)) }
+        ensures { IfOk result (λ stmt. in_tables stmt self.new ≡ statement_in self.old (special owner.now name.now)) }
     {
         let Some((target, name)) = self.attribute(owner, name)? else {
             return Ok(None);
@@ -368,7 +368,7 @@ impl Tables {
     }
 
     fn classof(&mut self, owner: &str) -> Result<Option<Stmt>, AllocError>
-        ensures { IfOk result (λ stmt. option_map (λ s. (s, self.new)) stmt ≡ statement_in self.old (classof owner.now)) }
+        ensures { IfOk result (λ stmt. in_tables stmt self.new ≡ statement_in self.old (classof owner.now)) }
     {
         match self.target(owner)? {
             Some(target) => Ok(Some(Stmt::ClassOf(target))),
@@ -379,7 +379,7 @@ impl Tables {
     /// The statement of a line, whose variables and names are numbered from now on. It answers `None` where the line
     /// names what it may not, or one text too many.
     pub fn statement(&mut self, shape: &Shape<'_>) -> Result<Option<Stmt>, AllocError>
-        ensures { IfOk result (λ stmt. option_map (λ s. (s, self.new)) stmt ≡ statement_in self.old (said shape.now)) }
+        ensures { IfOk result (λ stmt. in_tables stmt self.new ≡ statement_in self.old (said shape.now)) }
     {
         match shape {
             Shape::Class(class, bases) => Ok(self.class(class, *bases)),
