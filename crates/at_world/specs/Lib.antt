@@ -6,5 +6,7 @@ pub use Rattle.at_model.specs.Step
 pub use Rattle.at_model.specs.History
 pub use Rattle.at_model.specs.Final
 pub use Rattle.at_line.specs.Lines
+pub use Rattle.at_line.specs.Paths
 pub use Rattle.at_line.specs.Legal
 pub use Rattle.at_line.specs.Kept
+pub use Rattle.at_line.specs.Serial

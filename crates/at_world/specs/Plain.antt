@@ -1,7 +1,8 @@
--- What the plain data model keeps: a world, and how many writes led to it.
-use Rattle.std.specs.Prelude.{ℕ, ◌≡◌, ◌+◌, ◌-◌, ◌^◌, ◌≤◌, min, length, map, List, [], ◌∷◌, Option, Some, None, if◌then◌else◌, slice_index_or}
+-- The state of the plain data model: a world, and how many writes led to it.
+use Rattle.std.specs.Prelude.{ℕ, Bool, true, false, ◌≡◌, ◌+◌, ◌-◌, ◌^◌, ◌≤◌, min, length, map, List, [], ◌∷◌, Option, Some, None, if◌then◌else◌, slice_index_or}
 use Rattle.smallvec.specs.SmallVec.{SmallVec}
 use Rattle.at_value.specs.declared.operation.Op as op
+use Rattle.at_value.specs.declared.operation.Op.TheVariants as ops
 use Rattle.at_value.specs.declared.reply.Reply as replies
 use Rattle.at_value.specs.declared.value.Value as value
 use Rattle.at_value.specs.Widths as widths
@@ -35,6 +36,24 @@ IsOutcome outcome old new reply = (reply ≡ outcome.reply) × (new ≡ record {
 -- the reply and the state are those after an operation
 abbrev pub IsStepped : op.Op → PlainState → PlainState → replies.Reply → Type 0
 IsStepped operation old new reply = (reply ≡ (step old.world operation).reply) × (new ≡ stepped old operation)
+
+-- whether an operation may take memory: to make a class or an object, to set a value or bases, or to reply an order
+abbrev pub takes_memory : op.Op → Bool
+takes_memory (ops.NewClass c bases) = true
+takes_memory (ops.TypeSet c n v) = true
+takes_memory (ops.TypeDel c n) = false
+takes_memory (ops.SetBases c bases) = true
+takes_memory (ops.New c) = true
+takes_memory (ops.Set o n v) = true
+takes_memory (ops.Del o n) = false
+takes_memory (ops.SetClass o c) = false
+takes_memory (ops.Share o p) = false
+takes_memory (ops.Get o n) = false
+takes_memory (ops.TypeGet c n) = false
+takes_memory (ops.Super k o n) = false
+takes_memory (ops.Special o n) = false
+takes_memory (ops.ClassOf o) = false
+takes_memory (ops.Mro c) = true
 
 -- an object's dictionary without the name, where it was there
 abbrev pub own_deleted : World → Object → ℕ → Outcome

@@ -1,4 +1,5 @@
--- What is known of orders while a class is given other bases.
+-- private: about the stored orders; no public clause cites it. What is known of the orders while a class is given other
+-- bases.
 use Rattle.std.specs.Prelude.{ℕ, suc, Bool, not, ◌==◌, ◌≡◌, ◌<◌, ◌≤◌, ◌&&◌, false, List, [], ◌∷◌, length, Option, Some, None, if◌then◌else◌, IsTrue, is_some, slice_index_or}
 use Rattle.at_model.specs.declared.rows.ClassRow.{ClassRow}
 use Rattle.at_model.specs.World.{row_of, order_in}

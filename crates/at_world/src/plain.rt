@@ -1,9 +1,9 @@
 //! The data model, run as it is written: a world, and the operations on it one after another.
-ghost use Rattle.std.specs.Prelude.{◌≡◌, ◌-◌, ◌∷◌, [], IsTrue, IfOk, OnErr, replicate};
+ghost use Rattle.std.specs.Prelude.{◌≡◌, ◌-◌, ◌∷◌, [], false, IsTrue, IfOk, IsOk, OnErr, replicate};
 ghost use Rattle.at_value.specs.Widths as widths;
 ghost use Rattle.at_model.specs.World as world;
 ghost use Rattle.at_model.specs.Step as steps;
-ghost use Rattle.at_world.specs.Plain.{IsStepped, IsOutcome, lists_of};
+ghost use Rattle.at_world.specs.Plain.{IsStepped, IsOutcome, lists_of, takes_memory};
 
 mod classes;
 mod ending;
@@ -66,7 +66,9 @@ impl Plain {
     }
 
     /// The reply to an operation, which takes the world with it. A write, whose reply is `Done` or `Made`, counts one
-    /// place more. Where the operation is refused, and where memory runs out, world and count are as they were.
+    /// place more. Where the operation is refused, and where memory runs out, world and count are as they were. Only an
+    /// operation that makes a class or an object, sets a value or bases, or replies an order may take memory, and none
+    /// does where an object or a class that it names isn't made.
     ///
     /// The refusals are tried in this order: `NoAttr` for an object that isn't made, `NoClass` for a class that isn't,
     /// `NameTaken`, `Immutable` where `object` would be changed or have objects, `EmptyBases`, `Duplicate`, `Cycle` where
@@ -80,6 +82,9 @@ impl Plain {
     pub fn apply(&mut self, op: &Op) -> Result<Reply, AllocError>
         ensures ok { IfOk result (IsStepped op.now self.old self.new) }
         ensures err { OnErr result (self.new ≡ self.old) }
+        ensures room { takes_memory op.now ≡ false → IsOk result }
+        ensures no_object { steps.are_objects self.old.world (steps.objects_in op.now) ≡ false → IsOk result }
+        ensures no_class { steps.are_made self.old.world (steps.classes_in op.now) ≡ false → IsOk result }
     {
         if !self.has_objects(op) {
             return Ok(Reply::NoAttr);
@@ -105,6 +110,7 @@ impl Plain {
         requires { IsTrue (steps.are_made self.old.world (steps.classes_in op.now)) }
         ensures ok { IfOk result (IsOutcome (steps.effect self.old.world op.now) self.old self.new) }
         ensures err { OnErr result (self.new ≡ self.old) }
+        ensures room { takes_memory op.now ≡ false → IsOk result }
     {
         match op {
             Op::NewClass(c, bases) => self.new_class(*c, bases),

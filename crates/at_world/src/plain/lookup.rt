@@ -1,9 +1,10 @@
 //! Look-ups: of classes, their orders, objects and dictionaries, and of names in them.
-ghost use Rattle.std.specs.Prelude.{◌≡◌, IfOk, slice_get};
+ghost use Rattle.std.specs.Prelude.{◌≡◌, IfOk, length, nat_lt, slice_get};
 ghost use Rattle.std.specs.Option.{option_copied};
 ghost use Rattle.at_value.specs.Pairs.{value_at};
 ghost use Rattle.at_model.specs.World as world;
 ghost use Rattle.at_model.specs.Attributes as attributes;
+ghost use Rattle.at_model.specs.Step as steps;
 
 use super::Plain;
 use at_desc::Three;
@@ -19,6 +20,12 @@ const NO_THREE: Three = Three {
 };
 
 impl Plain {
+    pub(super) fn has_class(&self, c: Class) -> bool
+        ensures { result ≡ steps.is_made self.now.world c }
+    {
+        class_row(&self.classes, c.number()).is_some()
+    }
+
     pub(super) fn order_of(&self, c: Class) -> Option<&[u16]>
         ensures { option_copied result ≡ world.order_of self.now.world c }
     {
@@ -43,7 +50,7 @@ impl Plain {
         ensures { result ≡ attributes.three_of self.now.world t.now }
     {
         match t {
-            Some(Value::Obj(d)) => match self.objects.get(usize::from(d.number())) {
+            Some(Value::Obj(d)) => match self.object_at(*d) {
                 Some(object) => self.three_in(object.class),
                 None => NO_THREE,
             },
@@ -77,6 +84,12 @@ impl Plain {
             Some(order) => Ok(Some(ClassList::of_numbers(self.alloc, order)?)),
             None => Ok(None),
         }
+    }
+
+    pub(super) fn has_object(&self, o: Obj) -> bool
+        ensures { result ≡ nat_lt o (length self.now.world.objects) }
+    {
+        usize::from(o.number()) < self.objects.len()
     }
 
     pub(super) fn object_at(&self, o: Obj) -> Option<Object>

@@ -1,10 +1,9 @@
 //! Whether what an operation names is made.
-ghost use Rattle.std.specs.Prelude.{◌≡◌, nat_lt, length};
+ghost use Rattle.std.specs.Prelude.{◌≡◌};
 ghost use Rattle.at_model.specs.Step as steps;
 
 use super::Plain;
-use super::lookup::class_row;
-use at_value::{Class, Obj, Op, Value};
+use at_value::{Class, Op, Value};
 
 impl Plain {
     pub(super) fn has_objects(&self, op: &Op) -> bool
@@ -27,12 +26,6 @@ impl Plain {
             | Op::TypeGet(_, _)
             | Op::Mro(_) => true,
         }
-    }
-
-    fn has_object(&self, o: Obj) -> bool
-        ensures { result ≡ nat_lt o (length self.now.world.objects) }
-    {
-        usize::from(o.number()) < self.objects.len()
     }
 
     fn has_object_in(&self, v: &Value) -> bool
@@ -69,12 +62,6 @@ impl Plain {
             Op::Del(_, _) | Op::Share(_, _) | Op::Get(_, _) | Op::Special(_, _) | Op::ClassOf(_) =>
                 true,
         }
-    }
-
-    pub(super) fn has_class(&self, c: Class) -> bool
-        ensures { result ≡ steps.is_made self.now.world c }
-    {
-        class_row(&self.classes, c.number()).is_some()
     }
 
     fn has_all_classes(&self, classes: &[Class]) -> bool

@@ -12,12 +12,12 @@ impl Plain {
     pub(super) fn get(&self, o: Obj, n: Name) -> Reply
         ensures { result ≡ attributes.get_reply self.now.world o n }
     {
-        let Some(object) = self.objects.get(usize::from(o.number())) else {
+        let Some(object) = self.object_at(o) else {
             return Reply::NoAttr;
         };
         let t = self.find(object.class, n);
         let three = self.three_of(&t);
-        let own = self.own_value(object, n);
+        let own = self.own_value(&object, n);
         let getattr = self.find(object.class, Name::getattr());
         bind_get(t, &three, own, o, object.class, n, getattr)
     }
@@ -26,7 +26,7 @@ impl Plain {
     pub(super) fn special(&self, o: Obj, n: Name) -> Reply
         ensures { result ≡ attributes.special_reply self.now.world o n }
     {
-        let Some(object) = self.objects.get(usize::from(o.number())) else {
+        let Some(object) = self.object_at(o) else {
             return Reply::NoAttr;
         };
         let t = self.find(object.class, n);
@@ -37,7 +37,7 @@ impl Plain {
     pub(super) fn super_get(&self, k: Class, o: Obj, n: Name) -> Reply
         ensures { result ≡ attributes.super_reply self.now.world k o n }
     {
-        let Some(object) = self.objects.get(usize::from(o.number())) else {
+        let Some(object) = self.object_at(o) else {
             return Reply::NoAttr;
         };
         let Some(rest) = self.order_after(k, object.class) else {
@@ -59,7 +59,7 @@ impl Plain {
     pub(super) fn class_of(&self, o: Obj) -> Reply
         ensures { result ≡ attributes.class_of_reply self.now.world o }
     {
-        match self.objects.get(usize::from(o.number())) {
+        match self.object_at(o) {
             Some(object) => Reply::Value(Value::Class(object.class)),
             None => Reply::NoAttr,
         }

@@ -77,7 +77,8 @@ impl Plain {
 }
 
 /// The orders of all classes once c has these bases, each empty where its class has none. Classes come by the length
-/// that their orders had, so that the bases of each come before it, and those that c doesn't stand above keep theirs.
+/// that their orders had, so that the bases of each come before it. The order of a class that c doesn't stand above is
+/// the one that it had.
 fn new_orders(
     alloc: Global,
     classes: &[Option<ClassRow>],
