@@ -7,7 +7,8 @@ use Rattle.std.proofs.lemmas.List.{length-map, map-set, get_or-map}
 use Rattle.std.proofs.lemmas.List.Folds.{list_any-append}
 use Rattle.std.proofs.lemmas.List.Sums.{sum_by-cons, sum_by-append, sum_by-set, sum_by-remove}
 use Rattle.at_c3.specs.Counts.{AreCountsOf, tail_numbers}
-use Rattle.at_c3.specs.Merge.{contents, stands_in_a_tail}
+use Rattle.at_c3.specs.Merge.{stands_in_a_tail}
+use Rattle.at_c3.specs.Slices.{contents}
 
 -- a count is not zero exactly if some element passes
 list_any-from_count : {A : Type 0} (test : A → Bool) (xs : List A) → not (count_by test xs == 0) ≡ list_any test xs

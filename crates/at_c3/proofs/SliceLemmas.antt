@@ -3,7 +3,8 @@ use Rattle.std.proofs.Common.{◌≡◌, ◌∙◌, ap, sym, ℕ, ◌<◌, ◌+�
 use Rattle.std.specs.Borrow.{Bor}
 use Rattle.std.proofs.lemmas.List.{length-map, map-set, get_or-map}
 use Rattle.std.proofs.lemmas.List.Edits.{map_over_more}
-use Rattle.at_c3.specs.Merge.{without_head, contents}
+use Rattle.at_c3.specs.Merge.{without_head}
+use Rattle.at_c3.specs.Slices.{contents}
 
 -- the slices before i are without the head, and now the one at i is too
 pub contents_more : (c : ℕ) (was now : List (Bor (List ℕ))) (i : ℕ) (rest d : Bor (List ℕ)) → i < length was → length now ≡ length was

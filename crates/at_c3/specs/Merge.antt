@@ -1,13 +1,9 @@
 -- The C3 merge of lists of numbers, and the order of a class by it: Barrett and others, "A Monotonic Superclass
 -- Linearization for Dylan" (1996), whose rule is Python's method resolution order.
 use Rattle.std.specs.Prelude.{ℕ, ◌≡◌, ◌==◌, zero, suc, Bool, not, List, [], ◌∷◌, ◌++◌, length, map, drop, Option, Some, None, if◌then◌else◌, All, Any, Contains, IfSome, slice_get, find, option_and_then}
-use Rattle.std.specs.Borrow.{Bor}
 use Rattle.std.specs.List.{list_any, list_all, filter_map, concat}
 use Rattle.std.specs.Option.{option_map}
-
--- what slices contain
-abbrev pub contents : List (Bor (List ℕ)) → List (List ℕ)
-contents slices = map (λ slice. slice.now) slices
+pub use Rattle.at_c3.specs.Slices.{contents}
 
 abbrev pub is_empty : List ℕ → Bool
 is_empty list = length list == 0

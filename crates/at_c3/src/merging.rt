@@ -3,8 +3,9 @@ ghost use Rattle.std.specs.Prelude.{◌≡◌, ◌≤◌, ◌++◌, ◌∷◌, [
 ghost use Rattle.std.specs.List.{list_all, concat};
 ghost use Rattle.smallvec.specs.SmallVec.{HasRoomFor};
 ghost use Rattle.at_c3.specs.Counts.{AreCountsOf, tail_numbers};
-ghost use Rattle.at_c3.specs.Merge.{contents, is_empty, next_head, without_head, merge_of, prefixed, order_of_lists};
+ghost use Rattle.at_c3.specs.Merge.{is_empty, next_head, without_head, merge_of, prefixed, order_of_lists};
 ghost use Rattle.at_c3.specs.Room.{AreSmall, TakesNoMemory, lists_room};
+ghost use Rattle.at_c3.specs.Slices.{contents};
 
 use crate::counts::Counts;
 use crate::fault::MergeFault;
@@ -189,13 +190,13 @@ pub fn order_of_slices<'a>(
     orders: &[&'a [u16]],
 ) -> Result<List, MergeFault>
     ensures ordered { IfOk result
-        (λ list. order_of_lists c bases.now (contents orders.now) ≡ Some list.items) }
+        (λ list. order_of_lists c bases.now (map (λ l. l.now) orders.now) ≡ Some list.items) }
     ensures no_head { IsErrOf result MergeFault.NoHead
-        → order_of_lists c bases.now (contents orders.now) ≡ None }
-    ensures none { order_of_lists c bases.now (contents orders.now) ≡ None → IsErr result }
-    ensures some { IsSome (order_of_lists c bases.now (contents orders.now))
+        → order_of_lists c bases.now (map (λ l. l.now) orders.now) ≡ None }
+    ensures none { order_of_lists c bases.now (map (λ l. l.now) orders.now) ≡ None → IsErr result }
+    ensures some { IsSome (order_of_lists c bases.now (map (λ l. l.now) orders.now))
         → IsOkUnless result MergeFault.NoMemory }
-    ensures room { TakesNoMemory 1 (contents orders.now ++ bases.now ∷ [])
+    ensures room { TakesNoMemory 1 (map (λ l. l.now) orders.now ++ bases.now ∷ [])
         → IsOkUnless result MergeFault.NoHead }
 {
     let mut rests: Rests = SmallVec::from_slice(alloc, orders)?;

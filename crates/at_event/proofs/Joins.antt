@@ -7,7 +7,7 @@ use Rattle.at_value.specs.declared.operation.Op as op
 use Rattle.at_line.specs.declared.line.What as what
 use Rattle.at_view.specs.declared.HistoryView.{HistoryView}
 use Rattle.at_event.specs.Calls.{IsPrefix}
-use Rattle.at_event.specs.Events.{EventState, Event, join, first_state, view_of, longer, joined, option_join, IsEnabled, after_event, IsEventRun}
+use Rattle.at_event.specs.Events.{EventState, Event, join, first_state, view_of, longer, joined_view, option_join, IsEnabled, after_event, IsEventRun}
 use Rattle.at_event.proofs.Views.{live_within, IsKnown}
 use Rattle.at_event.proofs.Sound.{run_knows}
 
@@ -41,11 +41,11 @@ join_sees_both opened events said s v other before taken run (live, live_other, 
     let within_other : other < length s.views = live_within s.views other live_other in
     let long : length (set s.views v with_both) ≡ length s.views = length-set s.views v with_both in
     let join_of : Option HistoryView → Option HistoryView = λ view. option_join view (view_of s other) in
-    let both_are : with_both ≡ Some (joined before taken) = ap join_of is ∙ ap (option_join (Some before)) is_other in
+    let both_are : with_both ≡ Some (joined_view before taken) = ap join_of is ∙ ap (option_join (Some before)) is_other in
     let known = subst (IsKnown s.history v) is (run_knows opened events said s run v) in
     let known_other = subst (IsKnown s.history other) is_other (run_knows opened events said s run other) in
     let prefixes = both_in_longer before.seen taken.seen s.history known.1 known_other.1 in (
-      joined before taken,
+      joined_view before taken,
       get_or-set_other (set s.views v with_both) other v None None apart ∙ (get_or-set_same s.views v with_both None within ∙ both_are),
       get_or-set_same (set s.views v with_both) other None None (omega arith),
       prefixes.0,

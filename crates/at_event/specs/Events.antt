@@ -50,8 +50,8 @@ abbrev pub split_off : ℕ → HistoryView → HistoryView
 split_off birth view = record { birth = birth; seen = view.seen; own = [] }
 
 -- a view that takes in another has seen what either has, and the places of both are its own
-abbrev pub joined : HistoryView → HistoryView → HistoryView
-joined view other = record view { seen = longer view.seen other.seen; own = view.own ++ other.own }
+abbrev pub joined_view : HistoryView → HistoryView → HistoryView
+joined_view view other = record view { seen = longer view.seen other.seen; own = view.own ++ other.own }
 
 abbrev pub has_read : List op.Op → HistoryView → HistoryView
 has_read history view = record view { seen = history }
@@ -71,7 +71,7 @@ IsEnabled opened s (read v operation way) = IsLive s v × (is_write (replay open
 IsEnabled opened s (write v operation way) = IsLive s v × IsTrue (is_write (replay opened s.history) operation)
 
 abbrev pub option_join : Option HistoryView → Option HistoryView → Option HistoryView
-option_join (Some view) (Some other) = Some (joined view other)
+option_join (Some view) (Some other) = Some (joined_view view other)
 option_join view other = view
 
 abbrev pub option_change : (HistoryView → HistoryView) → Option HistoryView → Option HistoryView

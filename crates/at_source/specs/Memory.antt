@@ -1,5 +1,5 @@
 -- What is seen of the sources and sinks in memory.
-use Rattle.std.specs.Prelude.{ℕ, ◌==◌, List, Bool, if◌then◌else◌}
+use Rattle.std.specs.Prelude.{ℕ, ◌==◌, List, Bool, true, if◌then◌else◌}
 use Rattle.std.specs.List.{list_any}
 use Rattle.at_source.specs.Faults.{one_more}
 
@@ -31,3 +31,8 @@ pub record SinkState : Type 0 where
   pub most : ℕ
   pub is_flushed : Bool
   pub calls : CallState
+
+-- a sink after one more flush, which failed or not
+abbrev pub after_flush : SinkState → Bool → SinkState
+after_flush sink failed =
+    record sink { is_flushed = if failed then sink.is_flushed else true; calls = counted sink.calls failed }

@@ -1,7 +1,7 @@
 //! A source and a sink in memory, of known content, that fail at chosen calls.
-ghost use Rattle.std.specs.Prelude.{◌≡◌, ◌==◌, ◌+◌, ◌-◌, ◌<◌, ◌≤◌, ◌↔◌, ℕ, List, [], Option, Some, Bool, true, false, length, min, take, drop, vec_len, vec_capacity, IsErr, IsTrue, is_err, IfOk, OnErr, ◌++◌, ◌⊎◌, if◌then◌else◌};
+ghost use Rattle.std.specs.Prelude.{◌≡◌, ◌==◌, ◌+◌, ◌-◌, ◌<◌, ◌≤◌, ◌↔◌, ℕ, List, [], Option, Some, Bool, false, length, min, take, drop, vec_len, vec_capacity, IsErr, IsTrue, is_err, IfOk, OnErr, ◌++◌, ◌⊎◌, if◌then◌else◌};
 ghost use Rattle.at_source.specs.Faults.{one_more};
-ghost use Rattle.at_source.specs.Memory.{CallState, SourceState, SinkState, counted, fails_next};
+ghost use Rattle.at_source.specs.Memory.{CallState, SourceState, SinkState, after_flush, counted, fails_next};
 
 use crate::bytes::{append, copy_prefix};
 use crate::sink::Sink;
@@ -35,7 +35,6 @@ impl Calls {
         }
     }
 
-    /// Counts a call, and fails where its number stands among `fails`.
     fn begin(&mut self) -> Result<(), Failed>
         ensures fails { IsErr result ↔ IsTrue (fails_next self.old) }
         ensures after { self.new ≡ counted self.old (is_err result) }
@@ -182,8 +181,10 @@ impl Sink for MemSink {
 
     fn write(&mut self, piece: &[u8]) -> Result<usize, Failed>
         // It fails at the chosen calls, and where there is no room for a piece that isn't empty.
-        ensures fails { IsErr result ↔ (IsTrue (fails_next self.old.calls) ⊎ ((self.old.room ≡ 0) × (0 < length piece.now))) }
-        ensures unchanged { OnErr result ((self.new.written ≡ self.old.written) × (self.new.is_flushed ≡ self.old.is_flushed)) }
+        ensures fails { IsErr result
+            ↔ (IsTrue (fails_next self.old.calls) ⊎ ((self.old.room ≡ 0) × (0 < length piece.now))) }
+        ensures unchanged { OnErr result
+            ((self.new.written ≡ self.old.written) × (self.new.is_flushed ≡ self.old.is_flushed)) }
 
         // Else it takes all that it may.
         ensures count { IfOk result (λ k. k ≡ min (min self.old.most (length piece.now)) self.old.room) }
@@ -212,7 +213,7 @@ impl Sink for MemSink {
     fn flush(&mut self) -> Result<(), Failed>
         // It fails at the chosen calls alone, and changes nothing else.
         ensures fails { IsErr result ↔ IsTrue (fails_next self.old.calls) }
-        ensures after { self.new ≡ record self.old { is_flushed = (if is_err result then self.old.is_flushed else true); calls = counted self.old.calls (is_err result) } }
+        ensures after { self.new ≡ after_flush self.old (is_err result) }
         ensures later { self.old.calls.faults ≤ self.new.calls.faults }
     {
         self.calls.begin()?;

@@ -1,8 +1,8 @@
 //! A page of text before a sink. It remembers a failed write, so that what prints goes on in straight lines.
-ghost use Rattle.std.specs.Prelude.{◌≡◌, ◌+◌, ◌<◌, ◌≤◌, ◌⊎◌, ℕ, List, [], ◌∷◌, ◌++◌, Option, length, true, false, vec_capacity, IfOk, IsErr, IsTrue, OnOk, OnErr};
+ghost use Rattle.std.specs.Prelude.{◌≡◌, ◌+◌, ◌<◌, ◌≤◌, ◌⊎◌, ℕ, List, [], ◌∷◌, Option, length, true, false, vec_capacity, IfOk, IsErr, IsTrue, OnOk, OnErr};
 ghost use Rattle.std.specs.Io.KnownBytes.{append_known};
 ghost use Rattle.at_source.specs.Faults.{Rose};
-ghost use Rattle.at_source.specs.Page.{Held, Writes, Printed, empty_page};
+ghost use Rattle.at_source.specs.Page.{Held, Writes, Printed, empty_page, page_len, with_more};
 ghost use Rattle.at_source.specs.Whole.{GrewByPrefix};
 
 use crate::bytes::append;
@@ -27,7 +27,7 @@ impl Model for Page {
 
     ghost view = { λ p. record { bytes = p.bytes.items; failed = p.failed } };
 
-    ghost invariant = { λ p. vec_capacity p.bytes ≡ 65536 };
+    ghost invariant = { λ p. vec_capacity p.bytes ≡ page_len };
 }
 
 impl Page {
@@ -46,7 +46,8 @@ impl Page {
     #[inline]
     pub fn write<K: Sink>(&mut self, out: &mut K, bytes: &[u8])
         ensures text { Writes (K.written out.old) self.old (K.written out.new) self.new bytes.now }
-        ensures fits { length self.old.bytes + length bytes.now ≤ PAGE_LEN → (out.new ≡ out.old) × (self.new ≡ record self.old { bytes = self.old.bytes ++ bytes.now }) }
+        ensures fits { length self.old.bytes + length bytes.now ≤ page_len
+            → (out.new ≡ out.old) × (self.new ≡ with_more self.old bytes.now) }
         ensures no_fault { self.new.failed ≡ self.old.failed → K.faults out.new ≡ K.faults out.old }
         ensures later { K.faults out.old ≤ K.faults out.new }
         ensures cause { self.new.failed ≡ true → (self.old.failed ≡ true) ⊎ Rose (K.faults out.old) (K.faults out.new) }
@@ -62,7 +63,8 @@ impl Page {
     #[inline]
     pub fn write_byte<K: Sink>(&mut self, out: &mut K, byte: u8)
         ensures text { Writes (K.written out.old) self.old (K.written out.new) self.new (byte ∷ []) }
-        ensures fits { length self.old.bytes < PAGE_LEN → (out.new ≡ out.old) × (self.new ≡ record self.old { bytes = self.old.bytes ++ byte ∷ [] }) }
+        ensures fits { length self.old.bytes < page_len
+            → (out.new ≡ out.old) × (self.new ≡ with_more self.old (byte ∷ [])) }
         ensures no_fault { self.new.failed ≡ self.old.failed → K.faults out.new ≡ K.faults out.old }
         ensures later { K.faults out.old ≤ K.faults out.new }
         ensures cause { self.new.failed ≡ true → (self.old.failed ≡ true) ⊎ Rose (K.faults out.old) (K.faults out.new) }
@@ -77,13 +79,17 @@ impl Page {
     /// Sends what is held back, and flushes the sink. `Ok` says that all that was put on the page is written and flushed.
     pub fn finish<K: Sink>(mut self, out: &mut K) -> Result<(), Failed>
         // What the page held back was sent.
-        ensures whole { OnOk result ((self.failed ≡ false) × (K.written out.new ≡ append_known (K.written out.old) self.bytes)) }
+        ensures whole { OnOk result
+            ((self.failed ≡ false) × (K.written out.new ≡ append_known (K.written out.old) self.bytes)) }
         ensures part { OnErr result (GrewByPrefix (K.written out.old) (K.written out.new) self.bytes) }
-        ensures stopped { self.failed ≡ true → IsErr result × (K.written out.new ≡ K.written out.old) × (K.faults out.new ≡ K.faults out.old) }
+        ensures stopped { self.failed ≡ true
+            → IsErr result × (K.written out.new ≡ K.written out.old) × (K.faults out.new ≡ K.faults out.old) }
 
         // So all the text that was put on the page since it was empty is written, or a prefix of it.
-        ensures text { OnOk result ((start : Option (List ℕ)) (text : List ℕ) → Printed start (K.written out.old) self text → K.written out.new ≡ append_known start text) }
-        ensures prefix { OnErr result ((start : Option (List ℕ)) (text : List ℕ) → Printed start (K.written out.old) self text → GrewByPrefix start (K.written out.new) text) }
+        ensures text { OnOk result ((start : Option (List ℕ)) (text : List ℕ)
+            → Printed start (K.written out.old) self text → K.written out.new ≡ append_known start text) }
+        ensures prefix { OnErr result ((start : Option (List ℕ)) (text : List ℕ)
+            → Printed start (K.written out.old) self text → GrewByPrefix start (K.written out.new) text) }
 
         // All that was written is flushed.
         ensures flushed { OnOk result (IsTrue (K.is_flushed out.new)) }

@@ -24,7 +24,8 @@ pub trait Sink {
         ensures some { 0 < length piece.now → IfOk result (λ k. 0 < k) }
         ensures taken { IfOk result (λ k. written self.new ≡ append_known (written self.old) (take k piece.now)) }
         ensures flushed { IfOk result (λ k. is_flushed self.new ≡ (if k == 0 then is_flushed self.old else false)) }
-        ensures unchanged { OnErr result ((written self.new ≡ written self.old) × (is_flushed self.new ≡ is_flushed self.old)) }
+        ensures unchanged { OnErr result
+            ((written self.new ≡ written self.old) × (is_flushed self.new ≡ is_flushed self.old)) }
 
         // The count of faults rises exactly where the write fails, and never falls.
         ensures no_fault { OnOk result (faults self.new ≡ faults self.old) }

@@ -86,7 +86,6 @@ impl<O: Write> StdSink<O> {
         }
     }
 
-    /// Counts a fault.
     fn fault(&mut self) -> Failed
         ensures count { self.new ≡ record self.old { faults = one_more self.old.faults } }
         ensures later { self.old.faults ≤ self.new.faults }

@@ -104,7 +104,8 @@ fn read_more<S: Source>(
     ensures bound { vec_capacity bytes.new ≤ most }
     ensures room { vec_capacity bytes.new ≤ max (vec_capacity bytes.old) (FIRST_READ + 2 * filled) }
     ensures fits { IfOk result (λ k. filled + k ≤ vec_len bytes.new) }
-    ensures given { IfOk result (λ k. S.left source.old ≡ prepend_known (take k (drop filled bytes.new.items)) (S.left source.new)) }
+    ensures given { IfOk result
+        (λ k. S.left source.old ≡ prepend_known (take k (drop filled bytes.new.items)) (S.left source.new)) }
     ensures end { IfOk result (λ k. k ≡ 0 → IsAtEnd (S.left source.new)) }
     ensures unchanged { OnErr result (S.left source.new ≡ S.left source.old) }
     ensures not_long { result ≢ Err ReadAllFault.TooLong }

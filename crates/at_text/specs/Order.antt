@@ -1,4 +1,5 @@
--- The order of names by the bytes of their texts, as keys that are compared in place of the texts.
+-- private: no public clause cites it. The order of names by the bytes of their texts, as keys that are compared in place
+-- of the texts.
 use Rattle.std.specs.Prelude.{ℕ, ◌≡◌, ◌<◌, ◌≤◌, ◌-◌, List, false, slice_index}
 use Rattle.std.specs.Ordering.{nat_cmp, ordering_then, is_gt}
 use Rattle.std.specs.declared.cmp.Ordering.{Ordering}

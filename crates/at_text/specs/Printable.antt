@@ -1,5 +1,5 @@
--- The runs that the text tells apart. `print` writes the text of any lines and namespaces; on this domain the text is one
--- to one, but for the words that a call loaded before it went the slow way, which no line tells.
+-- The runs that the text tells apart. `print` writes the text of any lines and namespaces; on this domain the text is
+-- meant to be one to one, but for the words that a call loaded before it went the slow way, which no line tells.
 use Rattle.std.specs.Prelude.{ℕ, ◌≡◌, ◌==◌, ◌<◌, ◌≤◌, List, Option, Some, None, All, length, map, filter}
 use Rattle.std.specs.List.{range_with_len}
 use Rattle.std.specs.List.Sorted.{IsNonDecreasing}

@@ -1,4 +1,4 @@
--- Texts that are put on a page before a sink.
+-- private: no public clause cites it. Texts that are put on a page before a sink.
 use Rattle.std.specs.Prelude.{ℕ, ◌≡◌, ◌≤◌, ◌⊎◌, List, [], true, Option, Some, None}
 use Rattle.at_source.specs.Faults.{Rose}
 use Rattle.at_source.specs.Page.{Held, Writes}

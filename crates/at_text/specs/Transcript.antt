@@ -28,7 +28,7 @@ lines_text s lines = codes "lines " ++ decimal (length lines) ++ codes "\n" ++ f
 abbrev pub final_text : ScriptParts → Final → List ℕ
 final_text s last = codes "final\n" ++ flat_map (class_end_text s) last.classes ++ object_ends_text s 0 last.objects ++ codes "end\n"
 
--- The whole text. The names are those of the script; one that the script doesn't have is written as nothing. Where it is
--- one to one, `IsPrintable` says.
+-- The whole text. The names are those of the script; one that the script doesn't have is written as nothing. The
+-- domain on which it is meant to be one to one is `IsPrintable`.
 abbrev pub text : List ℕ → ScriptParts → List Line → Final → List ℕ
 text script s lines last = script_text script ++ lines_text s lines ++ final_text s last

@@ -16,7 +16,6 @@ use at_script::Script;
 use at_source::Sink;
 use at_value::{Name, Pairs, Value};
 
-/// Prints a name and its value, as `.x V`.
 fn put_pair<K: Sink>(pen: &mut Pen<'_, K>, names: &Script, name: Name, value: &Value)
     ensures { Prints pen.old pen.new (pair_text names.now (name, value.now)) }
 {
@@ -26,7 +25,6 @@ fn put_pair<K: Sink>(pen: &mut Pen<'_, K>, names: &Script, name: Name, value: &V
     pen.write(b"\n");
 }
 
-/// Prints the names of a class or an object, by bytes.
 fn put_own<K: Sink>(pen: &mut Pen<'_, K>, names: &Script, order: &mut ByBytes, own: &Pairs)
     requires { AreKeys names.now.names order.old.keys }
     ensures text { Prints pen.old pen.new (own_text names.now own.now) }
@@ -38,7 +36,6 @@ fn put_own<K: Sink>(pen: &mut Pen<'_, K>, names: &Script, order: &mut ByBytes, o
     }
 }
 
-/// Prints a class with its order and its names.
 fn put_class_end<K: Sink>(pen: &mut Pen<'_, K>, names: &Script, order: &mut ByBytes, end: &ClassEnd)
     requires { AreKeys names.now.names order.old.keys }
     ensures text { Prints pen.old pen.new (class_end_text names.now end.now) }
@@ -52,7 +49,6 @@ fn put_class_end<K: Sink>(pen: &mut Pen<'_, K>, names: &Script, order: &mut ByBy
     put_own(pen, names, order, &end.own);
 }
 
-/// Prints an object with its class and its names.
 fn put_object_end<K: Sink>(
     pen: &mut Pen<'_, K>,
     names: &Script,
@@ -71,7 +67,6 @@ fn put_object_end<K: Sink>(
     put_own(pen, names, order, &end.own);
 }
 
-/// Prints the class at an index, with its order and its names.
 fn put_class_end_at<K: Sink>(
     pen: &mut Pen<'_, K>,
     names: &Script,
@@ -88,7 +83,6 @@ fn put_class_end_at<K: Sink>(
     }
 }
 
-/// Prints the classes that were made.
 fn put_class_ends<K: Sink>(
     pen: &mut Pen<'_, K>,
     names: &Script,
@@ -104,7 +98,6 @@ fn put_class_ends<K: Sink>(
     }
 }
 
-/// Prints the object with this number, with its class and its names.
 fn put_object_end_at<K: Sink>(
     pen: &mut Pen<'_, K>,
     names: &Script,
@@ -121,7 +114,6 @@ fn put_object_end_at<K: Sink>(
     }
 }
 
-/// Prints the objects.
 fn put_object_ends<K: Sink>(
     pen: &mut Pen<'_, K>,
     names: &Script,

@@ -16,7 +16,6 @@ use at_script::Script;
 use at_source::Sink;
 use at_value::{Miss, Path, Place};
 
-/// Prints why a call didn't go the fast way, between blanks.
 fn put_miss<K: Sink>(pen: &mut Pen<'_, K>, miss: &Miss)
     ensures { Prints pen.old pen.new (codes " " ++ miss_word miss.now ++ codes " ") }
 {
@@ -32,7 +31,6 @@ fn put_miss<K: Sink>(pen: &mut Pen<'_, K>, miss: &Miss)
     }
 }
 
-/// Prints the way that a call went, between blanks.
 fn put_path<K: Sink>(pen: &mut Pen<'_, K>, path: &Path)
     ensures { Prints pen.old pen.new (path_item path.now) }
 {
@@ -51,7 +49,6 @@ fn put_word_and_number<K: Sink>(pen: &mut Pen<'_, K>, word: &[u8], number: u64)
     pen.number(number);
 }
 
-/// Prints `unbound a`.
 fn put_unbound<K: Sink>(pen: &mut Pen<'_, K>, names: &Script, var: u16)
     ensures { Prints pen.old pen.new (codes "unbound " ++ text_at names.now.vars var) }
 {
@@ -59,7 +56,6 @@ fn put_unbound<K: Sink>(pen: &mut Pen<'_, K>, names: &Script, var: u16)
     put_var(pen, names, var);
 }
 
-/// Prints what isn't an operation.
 fn put_local<K: Sink>(pen: &mut Pen<'_, K>, names: &Script, local: &Local)
     ensures { Prints pen.old pen.new (local_text names.now local.now) }
 {
@@ -74,7 +70,6 @@ fn put_local<K: Sink>(pen: &mut Pen<'_, K>, names: &Script, local: &Local)
     }
 }
 
-/// Prints the thread with this number, as `t1`, and a blank.
 fn put_thread_number<K: Sink>(pen: &mut Pen<'_, K>, thread: u8)
     ensures { Prints pen.old pen.new (codes "t" ++ decimal thread ++ codes " ") }
 {
@@ -83,7 +78,6 @@ fn put_thread_number<K: Sink>(pen: &mut Pen<'_, K>, thread: u8)
     pen.write(b" ");
 }
 
-/// Prints a thread and a blank: `m` is `main`, `f` is `finally`.
 #[inline]
 fn put_thread<K: Sink>(pen: &mut Pen<'_, K>, thread: u8)
     ensures { Prints pen.old pen.new (thread_text thread ++ codes " ") }
@@ -97,7 +91,6 @@ fn put_thread<K: Sink>(pen: &mut Pen<'_, K>, thread: u8)
     }
 }
 
-/// Prints place, path, operation and reply.
 fn put_did<K: Sink>(
     pen: &mut Pen<'_, K>,
     names: &Script,
@@ -115,7 +108,6 @@ fn put_did<K: Sink>(
     put_line_reply(pen, names, reply);
 }
 
-/// Prints what a line says.
 fn put_what<K: Sink>(pen: &mut Pen<'_, K>, names: &Script, what: &What)
     ensures { Prints pen.old pen.new (what_text names.now what.now) }
 {

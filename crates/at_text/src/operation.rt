@@ -69,7 +69,6 @@ fn put_of_object<K: Sink>(
     put_name(pen, names, name);
 }
 
-/// Prints `put C.x V`.
 fn put_type_set<K: Sink>(
     pen: &mut Pen<'_, K>,
     names: &Script,
@@ -84,7 +83,6 @@ fn put_type_set<K: Sink>(
     put_value_item(pen, names, value);
 }
 
-/// Prints `set #N.x V`.
 fn put_set<K: Sink>(pen: &mut Pen<'_, K>, names: &Script, object: Obj, name: Name, value: &Value)
     ensures { Prints pen.old pen.new
         (codes "set " ++ object_attribute names.now object name ++ value_item names.now value.now) }
@@ -93,7 +91,6 @@ fn put_set<K: Sink>(pen: &mut Pen<'_, K>, names: &Script, object: Obj, name: Nam
     put_value_item(pen, names, value);
 }
 
-/// Prints `turn #N C`.
 fn put_set_class<K: Sink>(pen: &mut Pen<'_, K>, names: &Script, object: Obj, class: Class)
     ensures { Prints pen.old pen.new (codes "turn " ++ object_text object ++ class_item names.now class) }
 {
@@ -120,7 +117,6 @@ fn put_word_and_object<K: Sink>(pen: &mut Pen<'_, K>, word: &[u8], object: Obj)
     put_object(pen, object);
 }
 
-/// Prints `super C #N.x`.
 fn put_super<K: Sink>(pen: &mut Pen<'_, K>, names: &Script, class: Class, object: Obj, name: Name)
     ensures { Prints pen.old pen.new
         (codes "super " ++ text_at names.now.classes class ++ codes " " ++ object_attribute names.now object name) }
@@ -153,7 +149,6 @@ pub fn put_op<K: Sink>(pen: &mut Pen<'_, K>, names: &Script, op: &Op)
     }
 }
 
-/// Prints the begin of a section.
 fn put_begin<K: Sink>(pen: &mut Pen<'_, K>, first: Obj, second: Option<Obj>)
     ensures { Prints pen.old pen.new (begin_text first second) }
 {

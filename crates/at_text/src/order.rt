@@ -67,7 +67,6 @@ impl ByBytes {
     }
 }
 
-/// The key of a name.
 fn key_of(keys: &[u16], name: Name) -> u16
     requires { length keys.now ≡ widths.names }
     ensures key { result ≡ slice_index keys.now name }
@@ -76,7 +75,6 @@ fn key_of(keys: &[u16], name: Name) -> u16
     keys[usize::from(name.number())]
 }
 
-/// Takes the pairs of a map in, each after its key.
 fn take_in(own: &Pairs, keys: &[u16], entries: &mut Vec<(u16, Name, Value)>)
     requires keys { length keys.now ≡ widths.names }
     requires capacity { vec_capacity entries.old ≡ widths.names }
@@ -93,7 +91,6 @@ fn take_in(own: &Pairs, keys: &[u16], entries: &mut Vec<(u16, Name, Value)>)
     }
 }
 
-/// The bytes of a name's text, none where the script doesn't have the name.
 fn bytes_of(names: &Script, name: Name) -> &[u8]
     ensures { result.now ≡ text_at names.now.names name }
 {
@@ -103,14 +100,12 @@ fn bytes_of(names: &Script, name: Name) -> &[u8]
     }
 }
 
-/// How two names come one after another: by the bytes of their texts, and by their numbers where these are the same.
 fn compare(names: &Script, a: Name, b: Name) -> Ordering
     ensures { result ≡ name_cmp names.now.names a b }
 {
     bytes_of(names, a).cmp(bytes_of(names, b)).then(a.cmp(&b))
 }
 
-/// The name with this number.
 fn name_at(number: usize) -> Name
     requires { number < widths.names }
     ensures { result ≡ number }
@@ -118,7 +113,6 @@ fn name_at(number: usize) -> Name
     Name::new(number as u16).unwrap()
 }
 
-/// All names, by rising number.
 fn all_names(alloc: Global) -> Result<Vec<Name>, AllocError>
     ensures { IfOk result (λ all. all.items ≡ range_with_len 0 widths.names) }
 {
@@ -129,7 +123,6 @@ fn all_names(alloc: Global) -> Result<Vec<Name>, AllocError>
     Ok(all)
 }
 
-/// All names, by their texts in the script.
 fn sorted_names(alloc: Global, names: &Script) -> Result<Vec<Name>, AllocError>
     ensures same { IfOk result (λ sorted. IsPermutation (range_with_len 0 widths.names) sorted.items) }
     ensures sorted { IfOk result (λ sorted. IsSortedBy (λ a b. is_lt (name_cmp names.now.names a b)) sorted.items) }
@@ -139,7 +132,6 @@ fn sorted_names(alloc: Global, names: &Script) -> Result<Vec<Name>, AllocError>
     Ok(sorted)
 }
 
-/// The keys of all names, by number: 1 and the name's place in this order.
 fn keys_in(alloc: Global, sorted: &[Name]) -> Result<Vec<u16>, AllocError>
     requires length { length sorted.now ≡ widths.names }
     requires range { All (λ n. n < widths.names) sorted.now }
@@ -155,7 +147,6 @@ fn keys_in(alloc: Global, sorted: &[Name]) -> Result<Vec<u16>, AllocError>
     Ok(keys)
 }
 
-/// The keys of all names, by their texts in the script.
 fn keys_of(alloc: Global, names: &Script) -> Result<Vec<u16>, AllocError>
     ensures length { IfOk result (λ keys. length keys.items ≡ widths.names) }
     ensures order { IfOk result (λ keys. AreKeys names.now.names keys.items) }

@@ -47,7 +47,6 @@ impl<'a, K: Sink> Pen<'a, K> {
         self.page.write(self.out, bytes);
     }
 
-    /// Prints a byte.
     #[inline]
     fn write_byte(&mut self, byte: u8)
         ensures { Prints self.old self.new (byte ∷ []) }

@@ -13,7 +13,6 @@ use at_script::Script;
 use at_source::Sink;
 use at_value::{Class, ClassList, Func, HookKind, Obj, Reply, Value};
 
-/// Prints `made #N`, and `init V` after it where the object's class has an `__init__`.
 fn put_made<K: Sink>(pen: &mut Pen<'_, K>, names: &Script, object: Obj, init: &Option<Value>)
     ensures { Prints pen.old pen.new (made_text names.now object init.now) }
 {
@@ -25,7 +24,6 @@ fn put_made<K: Sink>(pen: &mut Pen<'_, K>, names: &Script, object: Obj, init: &O
     }
 }
 
-/// Prints `value V`.
 fn put_value_reply<K: Sink>(pen: &mut Pen<'_, K>, names: &Script, value: &Value)
     ensures { Prints pen.old pen.new (codes "value " ++ value_text names.now value.now) }
 {
@@ -33,7 +31,6 @@ fn put_value_reply<K: Sink>(pen: &mut Pen<'_, K>, names: &Script, value: &Value)
     put_value(pen, names, value);
 }
 
-/// Prints `method F V`.
 fn put_method<K: Sink>(pen: &mut Pen<'_, K>, names: &Script, func: Func, first: &Value)
     ensures { Prints pen.old pen.new
         (codes "method " ++ text_at names.now.funcs func ++ value_item names.now first.now) }
@@ -43,7 +40,6 @@ fn put_method<K: Sink>(pen: &mut Pen<'_, K>, names: &Script, func: Func, first: 
     put_value_item(pen, names, first);
 }
 
-/// Prints the word for a kind of hook.
 fn put_hook_word<K: Sink>(pen: &mut Pen<'_, K>, kind: HookKind)
     ensures { Prints pen.old pen.new (hook_word kind) }
 {
@@ -58,7 +54,6 @@ fn put_hook_word<K: Sink>(pen: &mut Pen<'_, K>, kind: HookKind)
     }
 }
 
-/// Prints `hook` and its kind.
 fn put_hook<K: Sink>(pen: &mut Pen<'_, K>, kind: HookKind)
     ensures { Prints pen.old pen.new (codes "hook " ++ hook_word kind) }
 {
@@ -66,7 +61,6 @@ fn put_hook<K: Sink>(pen: &mut Pen<'_, K>, kind: HookKind)
     put_hook_word(pen, kind);
 }
 
-/// Prints `order C..`.
 fn put_order<K: Sink>(pen: &mut Pen<'_, K>, names: &Script, order: &ClassList)
     ensures { Prints pen.old pen.new (codes "order" ++ classes_text names.now order.now) }
 {
@@ -74,7 +68,6 @@ fn put_order<K: Sink>(pen: &mut Pen<'_, K>, names: &Script, order: &ClassList)
     put_classes(pen, names, order);
 }
 
-/// Prints `noorder C`.
 fn put_no_order<K: Sink>(pen: &mut Pen<'_, K>, names: &Script, class: Class)
     ensures { Prints pen.old pen.new (codes "noorder " ++ text_at names.now.classes class) }
 {
@@ -115,7 +108,6 @@ pub fn put_reply<K: Sink>(pen: &mut Pen<'_, K>, names: &Script, reply: &Reply)
     }
 }
 
-/// Prints `suspended N`.
 fn put_suspended<K: Sink>(pen: &mut Pen<'_, K>, times: u32)
     ensures { Prints pen.old pen.new (codes "suspended " ++ decimal times) }
 {

@@ -52,7 +52,6 @@ impl From<Failed> for PrintFault {
     }
 }
 
-/// Prints the header and the bytes of the script.
 fn put_script<K: Sink>(pen: &mut Pen<'_, K>, script: &[u8])
     ensures { Prints pen.old pen.new (script_text script.now) }
 {
@@ -63,7 +62,6 @@ fn put_script<K: Sink>(pen: &mut Pen<'_, K>, script: &[u8])
     pen.write(b"\n");
 }
 
-/// Prints the line at an index.
 #[inline]
 fn put_line_at<K: Sink>(pen: &mut Pen<'_, K>, names: &Script, lines: &Lines, i: usize)
     ensures { Prints pen.old pen.new (item_text (line_text names.now) (slice_get lines.now i)) }
@@ -73,7 +71,6 @@ fn put_line_at<K: Sink>(pen: &mut Pen<'_, K>, names: &Script, lines: &Lines, i: 
     }
 }
 
-/// Prints the lines after their number.
 fn put_lines<K: Sink>(pen: &mut Pen<'_, K>, names: &Script, lines: &Lines)
     ensures { Prints pen.old pen.new (lines_text names.now lines.now) }
 {

@@ -94,7 +94,6 @@ pub fn put_bases<K: Sink>(pen: &mut Pen<'_, K>, names: &Script, bases: &Bases)
     }
 }
 
-/// Prints the class at an index of a list, with a blank before it.
 fn put_class_at<K: Sink>(pen: &mut Pen<'_, K>, names: &Script, classes: &ClassList, i: usize)
     ensures { Prints pen.old pen.new (class_item_at names.now (slice_get classes.now i)) }
 {
@@ -112,7 +111,6 @@ pub fn put_classes<K: Sink>(pen: &mut Pen<'_, K>, names: &Script, classes: &Clas
     }
 }
 
-/// Prints a part of a property: its function, or `-`.
 fn put_part<K: Sink>(pen: &mut Pen<'_, K>, names: &Script, part: Option<Func>)
     ensures { Prints pen.old pen.new (part_text names.now part) }
 {
@@ -122,7 +120,6 @@ fn put_part<K: Sink>(pen: &mut Pen<'_, K>, names: &Script, part: Option<Func>)
     }
 }
 
-/// Prints a property, as `prop:f,-,-`.
 fn put_property<K: Sink>(pen: &mut Pen<'_, K>, names: &Script, property: Prop)
     ensures { Prints pen.old pen.new (property_text names.now property) }
 {
@@ -134,7 +131,6 @@ fn put_property<K: Sink>(pen: &mut Pen<'_, K>, names: &Script, property: Prop)
     put_part(pen, names, property.del());
 }
 
-/// Prints a text, in double quotes.
 fn put_quoted<K: Sink>(pen: &mut Pen<'_, K>, names: &Script, text: Name)
     ensures { Prints pen.old pen.new (codes "\"" ++ text_at names.now.names text ++ codes "\"") }
 {
@@ -143,7 +139,6 @@ fn put_quoted<K: Sink>(pen: &mut Pen<'_, K>, names: &Script, text: Name)
     pen.write(b"\"");
 }
 
-/// Prints a word and a function after it.
 fn put_word_and_func<K: Sink>(pen: &mut Pen<'_, K>, names: &Script, word: &[u8], func: Func)
     ensures { Prints pen.old pen.new (word.now ++ text_at names.now.funcs func) }
 {

@@ -5,7 +5,7 @@ use Rattle.std.proofs.lemmas.List.{get_or-set_same, get_or-set_other, length-set
 use Rattle.std.proofs.lemmas.List.Elements.{Contains-append_left, Contains-push_cases, Contains-get_or, All-filter, All-contains_itself, All-contains}
 use Rattle.std.proofs.lemmas.List.Quantifiers.{all_pairs_push}
 use Rattle.std.proofs.lemmas.List.Kept.{AllPairs-filter}
-use Rattle.at_tree.specs.Tree.{children, without, IsPath, Reaches, IsTree}
+use Rattle.at_tree.specs.Tree.{children, without_number, IsPath, Reaches, IsTree}
 use Rattle.at_tree.proofs.Members.{none_in}
 use Rattle.at_tree.proofs.Paths.{reach_here, reach_step, reach_trans, path_more}
 
@@ -78,23 +78,23 @@ module _ (tree : List (List ℕ)) (t : IsTree tree) (base c : ℕ) (base_in : ba
       }
 
   -- a pair of the tree in which base hasn't c was there
-  pair_from_removed : (k e : ℕ) → Contains (children (set tree base (without (children tree base) c)) k) e → Contains (children tree k) e
+  pair_from_removed : (k e : ℕ) → Contains (children (set tree base (without_number (children tree base) c)) k) e → Contains (children tree k) e
   pair_from_removed k =
-      children_set (without (children tree base) c) (λ list. (e : ℕ) → Contains list e → Contains (children tree k) e) k
+      children_set (without_number (children tree base) c) (λ list. (e : ℕ) → Contains list e → Contains (children tree k) e) k
       (λ at e h. subst (λ j. Contains (children tree j) e) (sym at) (in_filter (λ d. not (eqb d c)) (children tree base) e h))
       (λ _ e h. h)
 
   -- a tree stays one without a pair
-  pub removed : IsTree (set tree base (without (children tree base) c))
+  pub removed : IsTree (set tree base (without_number (children tree base) c))
   removed =
-      let size : length (set tree base (without (children tree base) c)) ≡ length tree = length-set tree base (without (children tree base) c) in
+      let size : length (set tree base (without_number (children tree base) c)) ≡ length tree = length-set tree base (without_number (children tree base) c) in
       record {
         small = omega (arith, t.small);
         numbers = λ k d h. subst (λ n. d < n) (sym size) (t.numbers k d (pair_from_removed k d h));
-        once = λ k. children_set (without (children tree base) c) (AllPairs (λ x y. x ≢ y)) k
+        once = λ k. children_set (without_number (children tree base) c) (AllPairs (λ x y. x ≢ y)) k
             (λ _. AllPairs-filter (λ x y. x ≢ y) (λ d. not (eqb d c)) (children tree base) (t.once base))
             (λ _. t.once k);
-        acyclic = λ k d h r. t.acyclic k d (pair_from_removed k d h) (path_more (set tree base (without (children tree base) c)) tree pair_from_removed d r.0 k r.1);
+        acyclic = λ k d h r. t.acyclic k d (pair_from_removed k d h) (path_more (set tree base (without_number (children tree base) c)) tree pair_from_removed d r.0 k r.1);
       }
 
   -- a pair of the tree is still there with c below base
@@ -112,19 +112,19 @@ module _ (tree : List (List ℕ)) (t : IsTree tree) (base c : ℕ) (base_in : ba
   )
 
   -- a path below c doesn't come to base
-  path_apart : Contains (children tree base) c → (a : ℕ) (path : List ℕ) (d : ℕ) → Reaches tree [] c a → IsPath tree [] a path d → Reaches (set tree base (without (children tree base) c)) [] a d
+  path_apart : Contains (children tree base) c → (a : ℕ) (path : List ℕ) (d : ℕ) → Reaches tree [] c a → IsPath tree [] a path d → Reaches (set tree base (without_number (children tree base) c)) [] a d
   path_apart pair a [] d r p = ([], p)
   path_apart pair a (e ∷ path) d r p =
-      let new : List (List ℕ) = set tree base (without (children tree base) c) in
+      let new : List (List ℕ) = set tree base (without_number (children tree base) c) in
       let next : Reaches tree [] c e = reach_trans tree [] c a e r (reach_step tree [] a e e p.0 (reach_here tree [] e e refl)) in
       let still_there : Contains (children new a) e =
-      children_set (without (children tree base) c) (λ list. Contains list e) a (λ at. absurd (t.acyclic base c pair (subst (Reaches tree [] c) at r))) (λ _. p.0) in
+      children_set (without_number (children tree base) c) (λ list. Contains list e) a (λ at. absurd (t.acyclic base c pair (subst (Reaches tree [] c) at r))) (λ _. p.0) in
       reach_step new [] a e d still_there (path_apart pair e path d next p.1)
 
   -- what lies below c is the same without c below base
-  pub removed_below : Contains (children tree base) c → (d : ℕ) → Reaches (set tree base (without (children tree base) c)) [] c d ↔ Reaches tree [] c d
+  pub removed_below : Contains (children tree base) c → (d : ℕ) → Reaches (set tree base (without_number (children tree base) c)) [] c d ↔ Reaches tree [] c d
   removed_below pair d = (
-    (λ r. path_more (set tree base (without (children tree base) c)) tree pair_from_removed c r.0 d r.1),
+    (λ r. path_more (set tree base (without_number (children tree base) c)) tree pair_from_removed c r.0 d r.1),
     (λ r. path_apart pair c r.0 d (reach_here tree [] c c refl) r.1),
   )
 

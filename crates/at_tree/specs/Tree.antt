@@ -7,8 +7,8 @@ abbrev pub children : List (List ℕ) → ℕ → List ℕ
 children tree c = slice_index_or tree c []
 
 -- the list without a class, the others in their order
-abbrev pub without : List ℕ → ℕ → List ℕ
-without classes c = filter (λ d. not (d == c)) classes
+abbrev pub without_number : List ℕ → ℕ → List ℕ
+without_number classes c = filter (λ d. not (d == c)) classes
 
 -- the classes that a walk enters from one: its direct subclasses, and none where the class is marked
 abbrev pub entered : List (List ℕ) → List Bool → ℕ → List ℕ

@@ -2,7 +2,7 @@
 #![tactic(auto)]
 
 ghost use Rattle.std.specs.Prelude.{◌≡◌, ◌↔◌, ℕ, ◌<◌, false, [], ◌∷◌, ◌++◌, length, replicate, All, Contains, IsOk, IfOk, OnOk, OnErr, slice_set};
-ghost use Rattle.at_tree.specs.Tree.{children, without, Reaches, IsTree};
+ghost use Rattle.at_tree.specs.Tree.{children, without_number, Reaches, IsTree};
 ghost use Rattle.at_tree.specs.Walk.{IsWalk, IsReachedFirst, AreClosed, IsUnmarkedFirst, walk_of};
 
 #[cfg(test)]
@@ -78,7 +78,7 @@ impl Tree {
     pub fn remove(&mut self, base: u16, c: u16)
         requires base_in { base < length self.old }
         requires present { Contains (children self.old base) c }
-        ensures removed { self.new ≡ slice_set self.old base (without (children self.old base) c) }
+        ensures removed { self.new ≡ slice_set self.old base (without_number (children self.old base) c) }
 
         // What lies below c is unchanged.
         ensures below_c { (d : ℕ) → Reaches self.new [] c d ↔ Reaches self.old [] c d }
@@ -111,7 +111,7 @@ impl Tree {
 }
 
 fn take_out(list: &mut Vec<u16>, c: u16)
-    ensures { list.new.items ≡ without list.old.items c }
+    ensures { list.new.items ≡ without_number list.old.items c }
 {
     list.retain(|d| *d != c);
 }

@@ -1,6 +1,6 @@
 use Rattle.std.proofs.Common.{◌<◌, All, ap, sym, subst, length, take, List, [], ℕ, Bor, arith}
 use Rattle.at_c3.specs.Counts.{tail_numbers}
-use Rattle.at_c3.specs.Merge.{contents}
+use Rattle.at_c3.specs.Slices.{contents}
 use Rattle.at_c3.specs.Room.{count_room}
 use Rattle.at_c3.proofs.RoomLemmas.{all_of_tail, tails_so_far}
 use Rattle.at_c3.proofs.merging.count_tails.Goals as goal

@@ -1,6 +1,6 @@
 use Rattle.std.proofs.Common.{[], take}
 use Rattle.at_c3.specs.Counts.{AreCountsOf, tail_numbers}
-use Rattle.at_c3.specs.Merge.{contents}
+use Rattle.at_c3.specs.Slices.{contents}
 use Rattle.at_c3.proofs.merging.count_tails.Given as goal
 
 -- the tails before the index are counted

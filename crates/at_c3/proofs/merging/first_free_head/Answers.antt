@@ -1,6 +1,7 @@
 use Rattle.std.proofs.Common.{◌≡◌, ◌∙◌, arith}
 use Rattle.std.proofs.lemmas.Grind.{common_steps}
-use Rattle.at_c3.specs.Merge.{contents, stands_in_a_tail}
+use Rattle.at_c3.specs.Merge.{stands_in_a_tail}
+use Rattle.at_c3.specs.Slices.{contents}
 use Rattle.at_c3.proofs.CountLemmas.{counted_in_a_tail}
 use Rattle.at_c3.proofs.merging.first_free_head.Goals as goal
 use Rattle.at_c3.proofs.merging.first_free_head.Goals.{in_default-via-in-None-1, in_default-via-in-Some+else-not-has}

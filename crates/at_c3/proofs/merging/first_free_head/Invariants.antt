@@ -1,5 +1,6 @@
 use Rattle.std.proofs.Common.{◌≡◌, not, drop, find}
-use Rattle.at_c3.specs.Merge.{contents, heads, stands_in_a_tail, next_head}
+use Rattle.at_c3.specs.Merge.{heads, stands_in_a_tail, next_head}
+use Rattle.at_c3.specs.Slices.{contents}
 use Rattle.at_c3.proofs.merging.first_free_head.Given as goal
 
 -- the heads that are left give the answer

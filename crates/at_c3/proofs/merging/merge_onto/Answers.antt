@@ -1,5 +1,5 @@
 use Rattle.std.proofs.Common.{arith}
-use Rattle.at_c3.specs.Merge.{contents}
+use Rattle.at_c3.specs.Slices.{contents}
 use Rattle.at_c3.proofs.StepLemmas.{merge_goes_on, rests_get_shorter, head_left}
 use Rattle.at_c3.proofs.RoomLemmas.{room_goes_on, tails_shorter}
 use Rattle.at_c3.proofs.merging.merge_onto.Goals as goal

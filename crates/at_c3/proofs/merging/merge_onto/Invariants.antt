@@ -2,7 +2,8 @@ use Rattle.std.proofs.Common.{◌≡◌, length}
 use Rattle.std.specs.List.{concat}
 use Rattle.smallvec.specs.SmallVec.{HasRoomFor}
 use Rattle.at_c3.specs.Counts.{AreCountsOf, tail_numbers}
-use Rattle.at_c3.specs.Merge.{contents, merge_of, prefixed}
+use Rattle.at_c3.specs.Merge.{merge_of, prefixed}
+use Rattle.at_c3.specs.Slices.{contents}
 use Rattle.at_c3.proofs.merging.merge_onto.Given as goal
 
 -- what is merged so far, and then the merge of what is left, is the merge of all

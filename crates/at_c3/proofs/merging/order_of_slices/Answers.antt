@@ -1,6 +1,6 @@
 use Rattle.std.proofs.Common.{◌≡◌, ◌∙◌, ap, [], ◌∷◌, ◌++◌, arith, length}
 use Rattle.std.proofs.lemmas.List.{map_push}
-use Rattle.at_c3.specs.Merge.{contents}
+use Rattle.at_c3.specs.Slices.{contents}
 use Rattle.at_c3.proofs.RoomLemmas.{merge_room}
 use Rattle.at_c3.proofs.merging.order_of_slices.Goals as goal
 

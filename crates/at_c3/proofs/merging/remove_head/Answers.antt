@@ -1,6 +1,6 @@
 use Rattle.std.proofs.Common.{remove, arith, ◌<◌, length}
 use Rattle.at_c3.specs.Counts.{tail_numbers}
-use Rattle.at_c3.specs.Merge.{contents}
+use Rattle.at_c3.specs.Slices.{contents}
 use Rattle.at_c3.proofs.SliceLemmas.{contents_more}
 use Rattle.at_c3.proofs.CountLemmas.{counts_apart_at, counts_joined_at}
 use Rattle.at_c3.proofs.merging.remove_head.Goals as goal

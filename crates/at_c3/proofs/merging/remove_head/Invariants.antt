@@ -1,6 +1,7 @@
 use Rattle.std.proofs.Common.{◌≡◌, ◌++◌, map, take, drop}
 use Rattle.at_c3.specs.Counts.{AreCountsOf, tail_numbers}
-use Rattle.at_c3.specs.Merge.{contents, without_head}
+use Rattle.at_c3.specs.Merge.{without_head}
+use Rattle.at_c3.specs.Slices.{contents}
 use Rattle.at_c3.proofs.merging.remove_head.Given as goal
 
 -- the lists before the index are done, and the others as they were

@@ -1,6 +1,6 @@
 use Rattle.std.proofs.Common.{◌≡◌, ◌≤◌, map, take, length}
 use Rattle.smallvec.specs.SmallVec.{small_vec_len}
-use Rattle.at_c3.specs.Merge.{contents}
+use Rattle.at_c3.specs.Slices.{contents}
 use Rattle.at_c3.proofs.merging.slices_of.Given as goal
 
 -- the lists so far, with room for all
