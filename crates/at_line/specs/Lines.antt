@@ -1,5 +1,5 @@
 -- The lines of a run: which of them are writes, and the history that their writes make.
-use Rattle.std.specs.Prelude.{ℕ, zero, suc, ◌≡◌, ◌==◌, Bool, false, List, [], ◌∷◌, ◌++◌, length, take, Some, option_to_list, if◌then◌else◌, slice_get}
+use Rattle.std.specs.Prelude.{ℕ, zero, suc, ◌≡◌, ◌==◌, Bool, false, List, [], ◌∷◌, ◌++◌, length, take, Some, option_to_list, filter, if◌then◌else◌, slice_get}
 use Rattle.at_value.specs.declared.operation.Op as op
 use Rattle.at_line.specs.declared.line.Line.{Line}
 use Rattle.at_line.specs.declared.line.LineOp.TheVariants as line_ops
@@ -19,6 +19,10 @@ most_threads = 32
 
 abbrev pub finally_thread : ℕ
 finally_thread = suc most_threads
+
+-- the lines of a thread, in the order in which they stand
+abbrev pub lines_of_thread : ℕ → List Line → List Line
+lines_of_thread thread lines = filter (λ (line : Line). line.thread == thread) lines
 
 abbrev pub what_of : Line → what.What
 what_of line = line.what

@@ -1,6 +1,6 @@
 -- The runs that the text tells apart. `print` writes the text of any lines and namespaces; on this domain the text is
 -- meant to be one to one, but for the words that a call loaded before it went the slow way, which no line tells.
-use Rattle.std.specs.Prelude.{ℕ, ◌≡◌, ◌==◌, ◌<◌, ◌≤◌, List, Option, Some, None, All, length, map, filter}
+use Rattle.std.specs.Prelude.{ℕ, ◌≡◌, ◌<◌, ◌≤◌, List, Option, Some, None, All, length, map}
 use Rattle.std.specs.List.{range_with_len}
 use Rattle.std.specs.List.Sorted.{IsNonDecreasing}
 use Rattle.at_value.specs.Pairs.{IsRising}
@@ -14,7 +14,7 @@ use Rattle.at_value.specs.declared.reply.Reply.TheVariants as reply
 use Rattle.at_model.specs.declared.last.ClassEnd.{ClassEnd}
 use Rattle.at_model.specs.declared.last.ObjEnd.{ObjEnd}
 use Rattle.at_model.specs.declared.last.Final.{Final}
-use Rattle.at_line.specs.Lines.{finally_thread}
+use Rattle.at_line.specs.Lines.{finally_thread, lines_of_thread}
 use Rattle.at_line.specs.declared.line.Line.{Line}
 use Rattle.at_line.specs.declared.line.LineOp as line_ops
 use Rattle.at_line.specs.declared.line.LineOp.TheVariants as line_op
@@ -138,17 +138,13 @@ HasClassEnd s end = HasClass s end.class × All (HasClass s) end.order × HasOwn
 abbrev pub HasObjEnd : ScriptParts → ObjEnd → Type 0
 HasObjEnd s end = HasClass s end.class × HasOwn s end.own
 
--- the lines of a thread
-abbrev pub lines_of : ℕ → List Line → List Line
-lines_of thread lines = filter (λ line. line.thread == thread) lines
-
 -- The domain of the text: the bytes are those of the script, which has all that the lines and the namespaces name; the
 -- threads come in order, and the lines of each are numbered from 1.
 pub record IsPrintable (script : List ℕ) (s : ScriptParts) (lines : List Line) (last : Final) : Type 0 where
   pub read : script_of script ≡ Some s
   pub threads : IsNonDecreasing (map (λ (line : Line). line.thread) lines)
   pub most : All (λ (line : Line). line.thread ≤ finally_thread) lines
-  pub numbers : (thread : ℕ) → map (λ (line : Line). line.number) (lines_of thread lines) ≡ range_with_len 1 (length (lines_of thread lines))
+  pub numbers : (thread : ℕ) → map (λ (line : Line). line.number) (lines_of_thread thread lines) ≡ range_with_len 1 (length (lines_of_thread thread lines))
   pub known : All (λ (line : Line). HasWhat s line.what) lines
   pub classes : All (HasClassEnd s) last.classes
   pub objects : All (HasObjEnd s) last.objects

@@ -1,5 +1,5 @@
 -- The laws of executions.
-use Rattle.std.specs.Prelude.{◌≡◌, ℕ, suc, ◌+◌, ◌*◌, ◌≤◌, ◌==◌, List, [], ◌∷◌, ◌++◌, length, filter, slice_get, Some}
+use Rattle.std.specs.Prelude.{◌≡◌, ℕ, suc, ◌+◌, ◌*◌, ◌≤◌, List, [], ◌∷◌, ◌++◌, length, slice_get, Some}
 use Rattle.at_value.specs.declared.reply.Place.{Place}
 use Rattle.at_value.specs.declared.reply.Path as path
 use Rattle.at_line.specs.declared.line.Line.{Line}
@@ -8,6 +8,7 @@ use Rattle.at_line.specs.declared.line.Local as local
 use Rattle.at_line.specs.declared.line.Local.TheVariants as locals
 use Rattle.at_line.specs.declared.line.What as what
 use Rattle.at_line.specs.declared.line.What.TheVariants as whats
+use Rattle.at_line.specs.Lines.{lines_of_thread}
 use Rattle.at_line.specs.Serial.{NamesNoLimit}
 use Rattle.at_script.specs.declared.stmt.Stmt as stmt
 use Rattle.at_script.specs.Parts.{ScriptParts}
@@ -52,7 +53,7 @@ ExecutionsAreShort =
 -- in a run of a script the lines of each thread, in the order in which they stand, have the numbers 1, 2 and so on
 abbrev pub NumbersHaveNoGap : Type 0
 NumbersHaveNoGap =
-    (s : ScriptParts) (lines : List Line) → IsRunOf s lines → (thread i : ℕ) (line : Line) → slice_get (filter (λ (l : Line). l.thread == thread) lines) i ≡ Some line
+    (s : ScriptParts) (lines : List Line) → IsRunOf s lines → (thread i : ℕ) (line : Line) → slice_get (lines_of_thread thread lines) i ≡ Some line
     → line.number ≡ suc i
 
 -- a line that a state demands by itself names no limit
