@@ -3,7 +3,6 @@
 use Rattle.std.specs.Prelude.{ℕ, ◌≡◌, ◌==◌, zero, suc, Bool, not, List, [], ◌∷◌, ◌++◌, length, map, drop, Option, Some, None, if◌then◌else◌, All, Any, Contains, IfSome, slice_get, find, option_and_then}
 use Rattle.std.specs.List.{list_any, list_all, filter_map, concat}
 use Rattle.std.specs.Option.{option_map}
-pub use Rattle.at_c3.specs.Slices.{contents}
 
 abbrev pub is_empty : List ℕ → Bool
 is_empty list = length list == 0
