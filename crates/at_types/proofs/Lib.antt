@@ -1,0 +1,11 @@
+pub mod TagLemmas
+pub mod KeptLemmas
+pub mod StepLemmas
+pub mod MergedOrders
+pub mod LinkLemmas
+pub mod Defining
+pub mod SubclassLemmas
+pub mod MissingBases
+pub mod NewOrders
+pub mod Relinked
+pub mod StandingLaws

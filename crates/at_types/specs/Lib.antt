@@ -1,0 +1,9 @@
+pub mod Tags
+pub mod ClassSteps
+pub mod Lookups
+pub mod Subclasses
+pub mod Kept
+pub mod Links
+pub mod Renewing
+pub mod Laws
+pub mod Types
