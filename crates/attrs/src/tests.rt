@@ -22,8 +22,6 @@ const FIRST: &str = "attrs 1\nmain\nclass C\nput C.x 1\nnew a C\nget a.x\nget a.
 const TRANSCRIPT: &str =
     "attrs transcript 1\nscript 59\nattrs 1\nmain\nclass C\nput C.x 1\nnew a C\nget a.x\nget a.x\nend\n\nlines 5\nm 1 1 locked class C object = done\nm 2 2 locked put C.x 1 = done\nm 3 3 locked new C = made #0\nm 4 3 locked get #0.x = value 1\nm 5 3 locked get #0.x = value 1\nfinal\nclass object = object\nclass C = C object\n.x 1\nobject #0 C\nend\n";
 
-const NOT_A_SCRIPT: Status = Status::Refused(0, Cause::Script);
-
 /// How many bytes a source gives and a sink takes in one call, at least one, which call of each fails, and how many
 /// bytes the sink takes in all.
 #[derive(Clone, Copy, Debug)]
@@ -143,12 +141,20 @@ const TEXTS: [(&str, &str, Status); 5] = [
         Status::Good,
     ),
     (FIRST, TRANSCRIPT, Status::Good),
-    ("", "refused 0 script\n", NOT_A_SCRIPT),
-    ("attrs 2\nmain\nend\n", "refused 0 script\n", NOT_A_SCRIPT),
     (
-        "attrs 1\nmain\nset a.\nend\n",
-        "refused 0 script\n",
-        NOT_A_SCRIPT,
+        "",
+        "refused 1 header\n",
+        Status::Refused(1, Cause::Header),
+    ),
+    (
+        "attrs 9\nmain\nend\n",
+        "refused 1 header\n",
+        Status::Refused(1, Cause::Header),
+    ),
+    (
+        "attrs 1\nmain\nset a. 1\nend\n",
+        "refused 3 form\n",
+        Status::Refused(3, Cause::Form),
     ),
 ];
 
@@ -242,7 +248,7 @@ fn a_full_sink_has_a_prefix(rt: HostRuntime) -> Result<(), Fail> {
 
 #[test]
 fn a_write_fault_leaves_a_prefix_of_a_refusal(rt: HostRuntime) -> Result<(), Fail> {
-    let refusal = "refused 0 script\n";
+    let refusal = "refused 1 header\n";
     for number in 0..=refusal.len() {
         let written = prefix(refusal, number);
         write_fails(&rt, rt.alloc(), "", &failing_at(number), written)?;
