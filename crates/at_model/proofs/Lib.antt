@@ -2,6 +2,8 @@ pub mod Subsequences
 pub mod Orders
 pub mod OrderLaws
 pub mod OnlyWrites
+pub mod OnlyObjects
 pub mod StoredOrders
+pub mod NewBases
 pub mod Worlds
 pub mod WorldSteps

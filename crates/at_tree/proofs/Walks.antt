@@ -144,3 +144,10 @@ module _ (tree : List (List ℕ)) (stop : List Bool) (list : List ℕ) (o : IsOr
 -- the order of a walk
 pub order_of : (tree : List (List ℕ)) (stop : List Bool) (c : ℕ) (out : List ℕ) → IsWalk tree stop c out → IsOrdered tree stop out
 order_of tree stop c out w = record { before = w.subclasses_first }
+
+-- where marks are closed downward, the list of a walk has exactly the unmarked classes that lie below its class
+pub walk_closed : (tree : List (List ℕ)) (stop : List Bool) (c : ℕ) (out : List ℕ) → IsWalk tree stop c out → AreClosed tree stop → (d : ℕ) → get_or stop d false ≡ false → Contains out d ↔ Reaches tree [] c d
+walk_closed tree stop c out w down d none = (
+  (λ h. reach_unmarked tree stop c d ((w.reached d).0 h)),
+  (λ r. (w.reached d).1 (r.0, (path_to_unmarked tree stop out (order_of tree stop c out w) down c r.0 d none r.1).1)),
+)

@@ -1,7 +1,7 @@
 //! The tree of direct subclasses, and the walk over all that lies below a class.
 #![tactic(auto)]
 
-ghost use Rattle.std.specs.Prelude.{◌≡◌, ◌↔◌, ℕ, ◌<◌, false, [], ◌∷◌, ◌++◌, length, replicate, All, Contains, IsOk, IfOk, OnOk, OnErr, slice_set};
+ghost use Rattle.std.specs.Prelude.{◌≡◌, ◌↔◌, ℕ, ◌<◌, false, [], ◌∷◌, ◌++◌, length, replicate, All, Contains, IsOk, IfOk, OnOk, OnErr, slice_set, slice_index_or};
 ghost use Rattle.at_tree.specs.Tree.{children, without_number, Reaches, IsTree};
 ghost use Rattle.at_tree.specs.Walk.{IsWalk, IsReachedFirst, AreClosed, IsUnmarkedFirst, walk_of};
 
@@ -99,6 +99,9 @@ impl Tree {
         ensures walk { IfOk result (λ list. IsWalk self.now stop.now c list.items) }
         ensures unmarked { IfOk result (λ list. All (λ marked. marked ≡ false) stop.now
             → (d : ℕ) → Contains list.items d ↔ Reaches self.now [] c d) }
+        ensures unmarked_in { IfOk result (λ list. AreClosed self.now stop.now
+            → (d : ℕ) → slice_index_or stop.now d false ≡ false
+            → Contains list.items d ↔ Reaches self.now [] c d) }
         ensures exact { IfOk result (λ list. list.items ≡ walk_of self.now stop.now c) }
 
         // A class stands after all that lies below it, also through several others, as far as the walk can know.

@@ -5,7 +5,9 @@ pub mod MergedOrders
 pub mod LinkLemmas
 pub mod Defining
 pub mod SubclassLemmas
+pub mod Marks
 pub mod MissingBases
 pub mod NewOrders
 pub mod Relinked
 pub mod StandingLaws
+pub mod Runs

@@ -2,9 +2,8 @@
 use Rattle.std.proofs.Common.{◌≡◌, ◌≢◌, ◌∙◌, ap, sym, refl, subst, ℕ, zero, suc, ◌+◌, ◌-◌, ◌<◌, ◌≤◌, ◌==◌, ◌&&◌, inl, inr, cond, length, length-take, get_or, set, take, drop, map, replicate, List, [], ◌∷◌, ◌++◌, Option, Some, None, Bool, true, false, is_some, is_none, IsTrue, All, Contains, arith}
 use Rattle.std.specs.Option.{unwrap_or}
 use Rattle.std.specs.List.{list_all, list_any}
-use Rattle.std.proofs.lemmas.Bool.{cases_eq, cases_lt, and_parts, or_parts, or_cases, or_left, or_right, eq-eqb, eqb-true, ne_eqb, false≢true, false_from_ne_true}
+use Rattle.std.proofs.lemmas.Bool.{cases_eq, cases_lt, and_parts, or_parts, or_cases, eq-eqb, eqb-true, ne_eqb, false≢true, false_from_ne_true}
 use Rattle.std.proofs.lemmas.List.{get_or-set_same, get_or-set_other, get_or_past, get_or-take, get_or-drop, get_or-replicate, length-set, length-drop, length-replicate, take-append-drop, drop_more, drop_all}
-use Rattle.at_c3.specs.Laws.{IsSubsequence}
 use Rattle.at_c3.proofs.NumberLemmas.{has, Contains-from_has, has-from_Contains}
 use Rattle.at_tree.specs.Tree.{children, entered, Reaches}
 use Rattle.at_tree.specs.Walk.{IsWalk}
@@ -12,53 +11,21 @@ use Rattle.at_tree.proofs.Members.{in_cons, in_here, in_there}
 use Rattle.at_tree.proofs.Paths.{reach_all, reach_unmarked}
 use Rattle.at_value.specs.Widths as widths
 use Rattle.at_model.specs.declared.rows.ClassRow.{ClassRow}
-use Rattle.at_model.specs.World.{World, row_of, own_of, bases_of, all_orders, merged_order, order_of_row, order_within, order_in, order_of}
+use Rattle.at_model.specs.World.{World, row_of, own_of, bases_of, all_orders, merged_order, order_in, order_of}
 use Rattle.at_model.specs.Step.{is_in_order, is_cycle, are_made, rebased, first_unordered_from, first_unordered, unless_unordered, if_ordered, with_bases}
 use Rattle.at_model.specs.StoredOrders.{AreOrders}
-use Rattle.at_model.proofs.Subsequences.{subsequence-has}
-use Rattle.at_model.proofs.Orders.{order_of_row-preserved_parts, has_own_class, made_below, not_made}
-use Rattle.at_model.proofs.OrderLaws.{orders_are_merges}
+use Rattle.at_model.proofs.Orders.{made_below, not_made}
+use Rattle.at_model.proofs.NewBases.{order_in-apart, order_by_bases, made-rebased}
 use Rattle.at_types.specs.ClassSteps.{world_of}
 use Rattle.at_types.specs.Kept.{AreWhole}
 use Rattle.at_types.specs.Subclasses.{IsWholeWalk}
 use Rattle.at_types.specs.Renewing.{NewOrders, order_now, new_bases, IsRight, AreRenewed, AreRenewedFrom, is_lost, first_lost}
 use Rattle.at_types.proofs.SubclassLemmas.{made_from_reaches, base_is_made, above_from_in_order, reaches_from_above}
 
--- Classes above which the changed class doesn't stand
-
-order_within-apart : (n : ℕ) (classes : List (Option ClassRow)) (c d : ℕ) (row : Option ClassRow) (order : List ℕ) → order_within n classes d ≡ Some order
-    → has c order ≡ false → order_within n (set classes c row) d ≡ Some order
-order_within-apart zero classes c d row order is apart = cc
-order_within-apart (suc n) classes c d row order is apart =
-    let other : d ≢ c = λ e. false≢true (sym apart ∙ ap (λ x. has x order) (sym e) ∙ has_own_class (suc n) classes d order is) in
-    let still : (p : List ℕ) → IsSubsequence p order → has c p ≡ false = λ p part. false_from_ne_true (has c p) (λ at. false≢true (sym apart ∙ subsequence-has c p order part at)) in
-    ap (order_of_row (order_within n (set classes c row)) d) (get_or-set_other classes c d row None other)
-    ∙ order_of_row-preserved_parts (order_within n classes) (order_within n (set classes c row)) d (row_of classes d) order is (λ b p at part _. order_within-apart n classes c b row p at (still p part))
-
--- they have the orders that they had
-order_in-apart : (classes : List (Option ClassRow)) (orders : List (List ℕ)) (c d : ℕ) (row : Option ClassRow) → AreOrders classes orders
-    → IsTrue (is_some (row_of classes d)) → has c (get_or orders d []) ≡ false → order_in (set classes c row) d ≡ order_in classes d
-order_in-apart classes orders c d row are made apart =
-    ap (λ n. order_within (suc n) (set classes c row) d) (length-set classes c row)
-    ∙ order_within-apart (suc (length classes)) classes c d row (get_or orders d []) (are d made) apart
-    ∙ sym (are d made)
-
 -- The rows once the class has other bases
 
 abbrev new_row : List (Option ClassRow) → ℕ → List ℕ → ClassRow
 new_row classes c bases = record { bases = bases; own = own_of (row_of classes c) }
-
--- no class is made or lost
-pub made-rebased : (classes : List (Option ClassRow)) (c : ℕ) (bases : List ℕ) → IsTrue (is_some (row_of classes c)) → (d : ℕ)
-    → is_some (row_of (rebased classes c bases) d) ≡ is_some (row_of classes d)
-made-rebased classes c bases made d =
-    let row : Option ClassRow = Some (new_row classes c bases) in
-    elim (cases_eq d c) [
-      | inl same ↦
-          ap (λ x. is_some (row_of (set classes c row) x)) same ∙ ap is_some (get_or-set_same classes c row None (made_below classes c made))
-          ∙ sym (ap (λ x. is_some (row_of classes x)) same ∙ made)
-      | inr other ↦ ap is_some (get_or-set_other classes c d row None other)
-    ]
 
 -- each class that is made has its new bases
 row_changed : (classes : List (Option ClassRow)) (c : ℕ) (bases : List ℕ) (d : ℕ) → IsTrue (is_some (row_of classes c)) → IsTrue (is_some (row_of classes d))
@@ -82,12 +49,6 @@ row_changed classes c bases d made there =
           ] refl
     ]
 
-map_agree_on : (f g : ℕ → Option (List ℕ)) (bases : List ℕ) → ((b : ℕ) → has b bases ≡ true → f b ≡ g b) → map f bases ≡ map g bases
-map_agree_on f g [] same = refl
-map_agree_on f g (b ∷ bases) same =
-    ap (λ r. r ∷ map f bases) (same b (or_left (b == b) (has b bases) (eq-eqb b b refl)))
-    ∙ ap (λ rs. g b ∷ rs) (map_agree_on f g bases (λ d at. same d (or_right (b == d) (has d bases) at)))
-
 -- where the orders of the new bases are right, so is the order that they give
 pub right_by_bases : (classes : List (Option ClassRow)) (c : ℕ) (bases : List ℕ) (f : ℕ → Option (List ℕ)) (d : ℕ) → IsTrue (is_some (row_of classes c)) → IsTrue (is_some (row_of classes d))
     → ((b : ℕ) → has b (new_bases classes c bases d) ≡ true → order_in (rebased classes c bases) b ≡ f b)
@@ -95,9 +56,8 @@ pub right_by_bases : (classes : List (Option ClassRow)) (c : ℕ) (bases : List 
 right_by_bases classes c bases f d made there each =
     let changed = rebased classes c bases in
     let found = row_changed classes c bases d made there in
-    orders_are_merges (world_of changed) d ∙ ap (order_of_row (order_in changed) d) found.1
-    ∙ ap (λ bs. merged_order d bs (all_orders (map (order_in changed) bs))) found.2
-    ∙ ap (λ rs. merged_order d (new_bases classes c bases d) (all_orders rs)) (map_agree_on (order_in changed) f (new_bases classes c bases d) each)
+    order_by_bases changed f d found.0 found.1 (λ b at. each b (ap (has b) (sym found.2) ∙ at))
+    ∙ ap (λ bs. merged_order d bs (all_orders (map f bs))) found.2
 
 -- The walk
 

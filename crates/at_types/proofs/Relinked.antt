@@ -26,7 +26,7 @@ use Rattle.at_types.proofs.Defining.{other_than}
 use Rattle.at_types.proofs.KeptLemmas.{subclasses-changed, distinct-changed, made_within}
 use Rattle.at_types.proofs.LinkLemmas.{length-with_each, linked-here, linked-elsewhere, linked-others, unlinked-here, unlinked-elsewhere, unlinked-others}
 use Rattle.at_types.proofs.MissingBases.{has-missing, has-missing_none, missing-once}
-use Rattle.at_types.proofs.NewOrders.{made-rebased}
+use Rattle.at_model.proofs.NewBases.{made-rebased}
 use Rattle.at_types.proofs.SubclassLemmas.{base_is_made, above_from_reaches, in_order_from_above}
 
 -- What a reply tells

@@ -1,5 +1,5 @@
 -- States and the worlds that they stand for.
-use Rattle.std.proofs.Common.{◌≡◌, ◌∙◌, ap, sym, refl, subst, ℕ, ◌+◌, ◌==◌, cond, not, length, length-append, leb, replicate, List, [], ◌∷◌, Option, Bool, true, false}
+use Rattle.std.proofs.Common.{◌≡◌, ◌∙◌, ap, sym, refl, subst, ℕ, ◌+◌, ◌==◌, cond, not, length, length-append, leb, replicate, List, [], ◌∷◌, Option, Bool, true, false, IsTrue}
 use Rattle.std.proofs.lemmas.Bool.{false≢true}
 use Rattle.std.proofs.lemmas.List.{length-replicate}
 use Rattle.at_value.specs.Numbers.{object, init}
@@ -14,7 +14,8 @@ use Rattle.at_model.specs.World.{World, order_in, opening}
 use Rattle.at_model.specs.Attributes.{Outcome, unchanged}
 use Rattle.at_model.specs.Step as steps
 use Rattle.at_model.proofs.OnlyWrites.{step-left}
-use Rattle.at_types.specs.Types.{TypesState, StandsFor, IsStepped, opened}
+use Rattle.at_types.specs.Types.{TypesState, StandsFor, IsReplyTo, IsStepped, opened, with_object}
+use Rattle.at_types.specs.Memory.{is_early}
 use Rattle.at_types.specs.Lookups.{found_in, found_after}
 use Rattle.at_types.specs.Laws.{LookUpsStand, ObjectIsCounted}
 
@@ -28,6 +29,14 @@ stand_in t = record { classes = t.classes; objects = replicate t.objects (record
 stands_in : (t : TypesState) → StandsFor t (stand_in t)
 unfolding stand_in
 stands_in t = record { classes = refl; objects = sym (length-replicate {A = Object} t.objects (record { class = 0; dict = 0 })) }
+
+-- an operation has one reply
+one_reply : (operation : op.Op) (t : TypesState) (r s : reply.Reply) → IsReplyTo operation t r → IsReplyTo operation t s → r ≡ s
+one_reply operation t r s is also = is (stand_in t) (stands_in t) ∙ sym (also (stand_in t) (stands_in t))
+
+-- so where one is known to be early, so is the other
+pub early_reply : (operation : op.Op) (t : TypesState) (r s : reply.Reply) → IsReplyTo operation t r → IsReplyTo operation t s → IsTrue (is_early r) → IsTrue (is_early s)
+early_reply operation t r s is also early = sym (ap is_early (one_reply operation t r s is also)) ∙ early
 
 pub refusals_change_nothing : (operation : op.Op) (old new : TypesState) (r : reply.Reply) → IsStepped operation old new r → steps.is_done r ≡ false → new ≡ old
 refusals_change_nothing operation old new r stepped refused =
@@ -58,7 +67,7 @@ object_is_counted t w c stands done =
     let is : steps.step w (ops.New c) ≡ last = rw (made.0, subject.0, few.0) refl in
     record {
       replied = ap (λ (o : Outcome). o.reply) is ∙ ap (λ n. replies.Made n (found_in w.classes c init)) (sym stands.objects) ∙ ap (λ classes. replies.Made t.objects (found_in classes c init)) (sym stands.classes);
-      stands = subst (λ (o : Outcome). StandsFor (record t { objects = t.objects + 1 }) o.world) (sym is) (record {
+      stands = subst (λ (o : Outcome). StandsFor (with_object t) o.world) (sym is) (record {
         classes = stands.classes;
         objects = ap (λ n. n + 1) stands.objects ∙ sym (length-append w.objects _);
       });

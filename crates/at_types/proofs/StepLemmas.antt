@@ -14,7 +14,7 @@ use Rattle.at_types.specs.ClassSteps.{world_of, class_step, reply_to, classes_af
 use Rattle.at_types.specs.Types.{TypesState, StandsFor, IsReplyTo, IsStepped}
 
 -- what is true of either outcome of a test
-by_test : (P : Outcome → Type 0) (b : Bool) (x y : Outcome) → P x → P y → P (cond b x y)
+pub by_test : (P : Outcome → Type 0) (b : Bool) (x y : Outcome) → P x → P y → P (cond b x y)
 by_test P true x y one other = one
 by_test P false x y one other = other
 

@@ -1,12 +1,13 @@
 -- How often tags stand in the lists of a pool, and how long these lists are.
-use Rattle.std.proofs.Common.{◌≡◌, ◌∙◌, ap, sym, refl, ℕ, zero, suc, ◌+◌, ◌-◌, ◌^◌, ◌<◌, ◌≤◌, ◌==◌, cond, inl, inr, min, length, get_or, set, length-append, map, Bool, List, [], ◌∷◌, ◌++◌, true, false, arith}
+use Rattle.std.proofs.Common.{◌≡◌, ◌≢◌, ◌⊎◌, ◌∙◌, ap, sym, refl, ℕ, zero, suc, ◌+◌, ◌-◌, ◌^◌, ◌<◌, ◌≤◌, ◌==◌, cond, inl, inr, min, length, get_or, set, length-append, map, Bool, List, [], ◌∷◌, ◌++◌, Some, None, IfSome, slice_get, true, false, arith}
 use Rattle.std.specs.List.{remove}
-use Rattle.std.proofs.lemmas.Bool.{cases_eq, eq-eqb, eqb-true}
+use Rattle.std.proofs.lemmas.Bool.{cases_eq, cases_lt, eq-eqb, eqb-true, ne_eqb}
+use Rattle.std.proofs.lemmas.Option.{get_or_from_slice_get, slice_get_within}
 use Rattle.std.proofs.lemmas.List.{length-map, length-set}
 use Rattle.std.proofs.lemmas.List.Edits.{length-remove}
 use Rattle.std.proofs.lemmas.List.Sums.{sum_by-cons, sum_by-append, sum_by_push, sum_by-set, sum_by-remove}
 use Rattle.at_types.specs.declared.tags.LimboRow.{LimboRow}
-use Rattle.at_types.specs.Tags.{TagState, times, times_in_limbo, tags_to, IsOut, IsPool}
+use Rattle.at_types.specs.Tags.{TagState, times, times_in_limbo, tags_to, IsOut, IsInLimbo, IsPool}
 
 abbrev weight : Bool → ℕ
 weight b = cond b 1 0
@@ -62,6 +63,48 @@ times-tags_to (suc n) t positive within =
       | inr other ↦ omega (arith, times_push t (suc n) (tags_to n), times-tags_to n t positive (omega arith))
     ]
 
+-- no other number is
+times-outside : (n t : ℕ) → (t < 1) ⊎ (n < t) → times t (tags_to n) ≡ 0
+times-outside zero t outside = refl
+times-outside (suc n) t outside =
+    let before : times t (tags_to n) ≡ 0 =
+    times-outside n t (elim outside [
+      | inl low ↦ inl low
+      | inr high ↦ inr (omega arith)
+    ]) in
+    let other : suc n ≢ t =
+    λ same. elim outside [
+      | inl low ↦ absurd (omega arith)
+      | inr high ↦ absurd (omega arith)
+    ] in
+    times_push t (suc n) (tags_to n) ∙ ap (λ x. times t (tags_to n) + weight x) (ne_eqb (suc n) t other) ∙ omega (arith, before)
+
+-- and none is there twice
+times-tags_to-most : (n t : ℕ) → times t (tags_to n) ≤ 1
+times-tags_to-most zero t = omega arith
+times-tags_to-most (suc n) t =
+    elim (cases_eq (suc n) t) [
+      | inl same ↦
+          let before : times t (tags_to n) ≡ 0 = times-outside n t (inr (omega arith)) in
+          let once : weight (suc n == t) ≡ weight true = ap weight (eq-eqb (suc n) t same) in
+          omega (arith, times_push t (suc n) (tags_to n), once, before)
+      | inr other ↦
+          let none : weight (suc n == t) ≡ weight false = ap weight (ne_eqb (suc n) t other) in
+          omega (arith, times_push t (suc n) (tags_to n), none, times-tags_to-most n t)
+    ]
+
+-- what is there is in its range
+in_range : (n t : ℕ) → 0 < times t (tags_to n) → (0 < t) × (t ≤ n)
+in_range n t there =
+    elim (cases_lt t 1) [
+      | inl low ↦ absurd (omega (arith, times-outside n t (inl low)))
+      | inr positive ↦
+          elim (cases_lt n t) [
+            | inl high ↦ absurd (omega (arith, times-outside n t (inr high)))
+            | inr within ↦ (omega arith, omega arith)
+          ]
+    ]
+
 -- the tags of rows
 abbrev limbo_tags : List LimboRow → List ℕ
 limbo_tags rows = map (λ row. row.tag) rows
@@ -114,6 +157,47 @@ pool-next size tag given freed now free limbo pool counted = record {
     balance = λ few. let before : given ≡ freed + length limbo + (size - (suc (length free) + length limbo)) = pool.true_counts.balance (omega arith) in omega (arith, pool.true_counts.fits);
   };
 }
+
+-- it is out then
+pub next-out : (size tag given freed now : ℕ) (free : List ℕ) (limbo : List LimboRow) → IsPool (state size (tag ∷ free) limbo given freed)
+    → IsOut (state size free limbo now freed) tag
+next-out size tag given freed now free limbo pool =
+    let once : weight (tag == tag) ≡ weight true = ap weight (eq-eqb tag tag refl) in
+    let single : times tag (tag ∷ free) + times_in_limbo tag limbo ≤ times tag (tags_to size) = pool.single tag in
+    let most = times-tags_to-most size tag in
+    let range = in_range size tag (omega (arith, single, times-cons tag tag free, once)) in
+    record {
+      positive = range.0;
+      within = range.1;
+      not_free = omega (arith, single, most, times-cons tag tag free, once);
+      not_in_limbo = omega (arith, single, most, times-cons tag tag free, once);
+    }
+
+-- the tag of a row is in limbo
+row-in_limbo : (size given freed i : ℕ) (free : List ℕ) (limbo : List LimboRow) (row : LimboRow) → IsPool (state size free limbo given freed)
+    → i < length limbo → row ≡ get_or limbo i row → IsInLimbo (state size free limbo given freed) row.tag
+row-in_limbo size given freed i free limbo row pool within is =
+    let f : LimboRow → ℕ = λ r. weight (r.tag == row.tag) in
+    let once : f row ≡ weight true = ap weight (eq-eqb row.tag row.tag refl) in
+    let single : times row.tag free + times_in_limbo row.tag limbo ≤ times row.tag (tags_to size) = pool.single row.tag in
+    let without = sum_by-remove f limbo i row within in
+    let most = times-tags_to-most size row.tag in
+    let range = in_range size row.tag (omega (arith, single, once, ap f is, without)) in
+    record {
+      positive = range.0;
+      within = range.1;
+      not_free = omega (arith, single, most, once, ap f is, without);
+      in_one_row = omega (arith, single, most, once, ap f is, without);
+    }
+
+pub rows-in_limbo : (size given freed i : ℕ) (free : List ℕ) (limbo : List LimboRow) → IsPool (state size free limbo given freed)
+    → IfSome (slice_get limbo i) (λ row. IsInLimbo (state size free limbo given freed) row.tag)
+rows-in_limbo size given freed i free limbo pool =
+    elim (slice_get limbo i) as (λ r. slice_get limbo i ≡ r → IfSome r (λ row. IsInLimbo (state size free limbo given freed) row.tag)) [
+      | None ↦ λ _. tt
+      | Some row ↦ λ at.
+          row-in_limbo size given freed i free limbo row pool (slice_get_within limbo i row at) (sym (get_or_from_slice_get limbo i row row at))
+    ] refl
 
 -- a tag that is out comes into limbo
 pub pool-in_limbo : (size given freed tag : ℕ) (free : List ℕ) (limbo : List LimboRow) (row : LimboRow) → IsPool (state size free limbo given freed)

@@ -1,5 +1,5 @@
 -- The laws of stored classes and of orders.
-use Rattle.std.specs.Prelude.{ℕ, ◌≡◌, ◌≢◌, ◌+◌, true, false, List, Some, Contains}
+use Rattle.std.specs.Prelude.{ℕ, ◌≡◌, ◌≢◌, true, false, List, Some, Contains}
 use Rattle.at_value.specs.Numbers.{init}
 use Rattle.at_value.specs.declared.operation.Op as op
 use Rattle.at_value.specs.declared.operation.Op.TheVariants as ops
@@ -9,7 +9,7 @@ use Rattle.at_model.specs.World.{World, IsBase, order_in, order_of, find_by, fin
 use Rattle.at_model.specs.Attributes.{classes_after_in}
 use Rattle.at_model.specs.Step.{step, is_done, is_write}
 use Rattle.at_types.specs.Lookups.{found_in, found_after}
-use Rattle.at_types.specs.Types.{TypesState, StandsFor, IsStepped, opened}
+use Rattle.at_types.specs.Types.{TypesState, StandsFor, IsStepped, opened, with_object}
 
 -- each class of an order but its first stands in the order of a base of the first
 abbrev pub RestIsAbove : Type 0
@@ -39,7 +39,7 @@ AllLookUpsStand = (t : TypesState) (w : World) → StandsFor t w → LookUpsStan
 -- is counted.
 pub record ObjectIsCounted (t : TypesState) (w : World) (c : ℕ) : Type 0 where
   pub replied : (step w (ops.New c)).reply ≡ replies.Made t.objects (found_in t.classes c init)
-  pub stands : StandsFor (record t { objects = t.objects + 1 }) (step w (ops.New c)).world
+  pub stands : StandsFor (with_object t) (step w (ops.New c)).world
 
 abbrev pub ObjectsAreCounted : Type 0
 ObjectsAreCounted = (t : TypesState) (w : World) (c : ℕ) → StandsFor t w → is_write w (ops.New c) ≡ true → ObjectIsCounted t w c

@@ -7,3 +7,5 @@ pub mod Links
 pub mod Renewing
 pub mod Laws
 pub mod Types
+pub mod Calls
+pub mod Memory

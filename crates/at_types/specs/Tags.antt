@@ -39,6 +39,13 @@ pub record IsOut (s : TagState) (tag : ℕ) : Type 0 where
   pub not_free : times tag s.free ≡ 0
   pub not_in_limbo : times_in_limbo tag s.limbo ≡ 0
 
+-- the tag waits in limbo, in one row
+pub record IsInLimbo (s : TagState) (tag : ℕ) : Type 0 where
+  pub positive : 0 < tag
+  pub within : tag ≤ s.size
+  pub not_free : times tag s.free ≡ 0
+  pub in_one_row : times_in_limbo tag s.limbo ≡ 1
+
 -- how many tags are out
 abbrev pub out_of : TagState → ℕ
 out_of s = s.size - (length s.free + length s.limbo)

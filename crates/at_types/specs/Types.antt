@@ -1,14 +1,15 @@
 -- What contracts see of `Types`, and what operations on classes do to it.
-use Rattle.std.specs.Prelude.{ℕ, ◌≡◌, Bool, true, false, List, length, replicate, Option, nat_lt, is_some}
+use Rattle.std.specs.Prelude.{ℕ, ◌≡◌, ◌+◌, ◌≤◌, Bool, true, false, List, length, replicate, Option, Some, IsTrue, nat_lt, is_some, slice_set}
 use Rattle.std.specs.List.{list_all}
 use Rattle.at_value.specs.declared.value.Value as value
 use Rattle.at_value.specs.declared.operation.Op as op
 use Rattle.at_value.specs.declared.operation.Op.TheVariants as ops
 use Rattle.at_value.specs.declared.reply.Reply as reply
 use Rattle.at_model.specs.declared.rows.ClassRow.{ClassRow}
-use Rattle.at_model.specs.World.{World, row_of, opening}
+use Rattle.at_value.specs.Widths as widths
+use Rattle.at_model.specs.World.{World, row_of, order_in, opening}
 use Rattle.at_model.specs.Step.{step, class_in, object_in}
-use Rattle.at_types.specs.Tags.{TagState, full_pool}
+use Rattle.at_types.specs.Tags.{TagState, IsPool, full_pool}
 
 -- The classes by number, none where a class isn't made; how many objects there are; for each number of a pass whether it
 -- is free; and the tags.
@@ -25,6 +26,28 @@ pass_numbers = 64
 -- the class `object` alone, each number free, and a pool of this many tags
 abbrev pub opened : ℕ → TypesState
 opened tags = record { classes = opening.classes; objects = 0; numbers = replicate pass_numbers true; tags = full_pool tags }
+
+-- What is true of every `Types`.
+pub record IsTypes (t : TypesState) : Type 0 where
+  -- there is a row for each class number, and each class that is made has an order
+  pub numbered : length t.classes ≡ widths.classes
+  pub ordered : (c : ℕ) → IsTrue (is_some (row_of t.classes c)) → (order : List ℕ) × (order_in t.classes c ≡ Some order)
+  pub few : t.objects ≤ widths.objects
+  pub passes : length t.numbers ≡ pass_numbers
+  pub pool : IsPool t.tags
+
+-- What calls change
+
+-- one more object
+abbrev pub with_object : TypesState → TypesState
+with_object t = record t { objects = t.objects + 1 }
+
+-- the number of a pass is free, or it isn't
+abbrev pub with_number : TypesState → ℕ → Bool → TypesState
+with_number t q free = record t { numbers = slice_set t.numbers q free }
+
+abbrev pub with_tags : TypesState → TagState → TypesState
+with_tags t tags = record t { tags = tags }
 
 -- The world has these classes, and as many objects.
 pub record StandsFor (t : TypesState) (w : World) : Type 0 where

@@ -9,7 +9,7 @@ ghost use Rattle.at_model.specs.Attributes.{classes_after};
 ghost use Rattle.at_model.specs.Step.{is_in_order};
 ghost use Rattle.at_types.specs.Lookups.{found_in, found_after};
 ghost use Rattle.at_types.specs.Kept.{AreWhole, opening_orders};
-ghost use Rattle.at_types.specs.Subclasses.{IsSubclassWalk};
+ghost use Rattle.at_types.specs.Subclasses.{IsSubclassWalk, AreClosedBelow, IsBelow};
 
 mod defining;
 mod links;
@@ -61,6 +61,12 @@ impl Classes {
             subclasses: Tree::new(alloc, Class::COUNT)?,
             alloc,
         })
+    }
+
+    pub(crate) fn invariant(&self)
+        ensures { AreWhole self.now }
+    {
+        let _ = &self.rows;
     }
 
     pub(crate) fn is_made(&self, c: Class) -> bool
@@ -127,6 +133,10 @@ impl Classes {
         ensures unmarked { IfOk result (λ list.
             All (λ marked. marked ≡ false) stop.now → IsTrue (is_some (world.row_of self.now c))
             → (d : ℕ) → Contains list.items d ↔ IsTrue (is_in_order c (world.order_in self.now d))) }
+        ensures below { IfOk result (λ list. IsTrue (is_some (world.row_of self.now c))
+            → (d : ℕ) → Contains list.items d → IsTrue (is_in_order c (world.order_in self.now d))) }
+        ensures closed { IfOk result (λ list. AreClosedBelow self.now stop.now
+            → IsTrue (is_some (world.row_of self.now c)) → IsBelow self.now stop.now c list.items) }
     {
         self.subclasses.below(c.number(), stop)
     }

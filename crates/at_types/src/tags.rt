@@ -90,6 +90,12 @@ impl TagPool {
         })
     }
 
+    pub(crate) fn invariant(&self)
+        ensures { tags.IsPool self.now }
+    {
+        let _ = &self.size;
+    }
+
     pub(crate) fn counts(&self) -> TagCounts
         ensures counts { result ≡ tags.counts_of self.now }
         ensures true_counts { tags.HasTrueCounts self.now }
@@ -107,6 +113,8 @@ impl TagPool {
     pub(crate) fn next(&mut self) -> Option<u16>
         ensures first { result ≡ slice_get self.old.free 0 }
         ensures given { IfSome result (λ tag. self.new ≡ tags.next_given self.old) }
+        ensures was_in { IfSome result (λ tag. ¬ tags.IsOut self.old tag) }
+        ensures out { IfSome result (λ tag. tags.IsOut self.new tag) }
         ensures none { IfNone result (self.new ≡ self.old) }
     {
         let tag = self.free.pop_front()?;
@@ -127,9 +135,10 @@ impl TagPool {
     }
 
     pub(crate) fn limbo_at(&self, i: u16) -> Option<LimboRow>
-        ensures { result ≡ slice_get self.now.limbo i }
+        ensures row { result ≡ slice_get self.now.limbo i }
+        ensures in_limbo { IfSome result (λ row. tags.IsInLimbo self.now row.tag) }
     {
-        self.limbo.get(usize::from(i)).copied()
+        row_at(&self.limbo, i)
     }
 
     pub(crate) fn set_goal(&mut self, i: u16, goal: u64)
@@ -155,4 +164,10 @@ impl TagPool {
         self.free.push_back_reserved(row.tag);
         self.freed = self.freed.saturating_add(1);
     }
+}
+
+fn row_at(rows: &[LimboRow], i: u16) -> Option<LimboRow>
+    ensures { result ≡ slice_get rows.now i }
+{
+    rows.get(usize::from(i)).copied()
 }

@@ -1,15 +1,18 @@
 //! `Types`: what is kept of classes, objects, passes and tags under the lock of the types.
-ghost use Rattle.std.specs.Prelude.{◌≡◌, ◌+◌, ◌<◌, ◌≤◌, ◌↔◌, ℕ, nat_lt, IsTrue, IfOk, OnOk, OnErr, IfSome, IfNone, All, Contains, false, is_some, length, position, slice_get, slice_index_or, slice_set, true};
+ghost use Rattle.std.specs.Prelude.{◌≡◌, ◌+◌, ◌<◌, ◌≤◌, ◌↔◌, ℕ, nat_lt, IsTrue, IsOk, IsSome, IfOk, OnOk, OnErr, IfSome, IfNone, All, Contains, false, is_some, length, position, slice_get, slice_index_or, slice_set, true};
 ghost use Rattle.std.specs.Option.{option_copied};
 ghost use Rattle.at_value.specs.Widths as widths;
+ghost use Rattle.at_value.specs.Pairs.{value_at};
 ghost use Rattle.at_value.specs.declared.operation.Op.TheVariants as ops;
+ghost use Rattle.at_value.specs.declared.reply.Reply as reply;
 ghost use Rattle.at_model.specs.World as world;
 ghost use Rattle.at_model.specs.Step.{is_in_order};
 ghost use Rattle.at_types.specs.Lookups.{found_in, found_after};
-ghost use Rattle.at_types.specs.Subclasses.{IsSubclassWalk};
+ghost use Rattle.at_types.specs.Subclasses.{IsSubclassWalk, AreClosedBelow, IsBelow};
 ghost use Rattle.at_types.specs.Tags as tags;
 ghost use Rattle.at_types.specs.ClassSteps.{plan_reply};
-ghost use Rattle.at_types.specs.Types.{IsStepped, IsReplyTo, opened, pass_numbers, is_class_write, has_objects, has_classes};
+ghost use Rattle.at_types.specs.Memory.{is_early, changes_no_order};
+ghost use Rattle.at_types.specs.Types.{IsStepped, IsReplyTo, IsTypes, opened, pass_numbers, is_class_write, has_objects, has_classes, with_object, with_number, with_tags};
 
 use crate::classes::Classes;
 use crate::tags::{KeptBy, LimboRow, TagCounts, TagPool};
@@ -65,6 +68,16 @@ impl Types {
         })
     }
 
+    /// What is true of every `Types`: there is a row for each class number, each class that is made has an order, there
+    /// are at most 4,096 objects and 64 numbers of passes, and the counts of tags are true. It does nothing.
+    pub fn invariant(&self)
+        ensures { IsTypes self.now }
+    {
+        self.classes.invariant();
+        self.tags.invariant();
+        let _: &[bool] = &self.numbers;
+    }
+
     /// `class c(bases)`. The refusals are tried in this order: `NoClass` for a base that isn't made, `NameTaken`,
     /// `EmptyBases`, `Duplicate`, `NoOrder`. Where it is refused, and where memory runs out, nothing changes; memory may
     /// run out before `NoOrder` is known.
@@ -74,15 +87,21 @@ impl Types {
     pub fn define(&mut self, c: Class, bases: &Bases) -> Result<Reply, AllocError>
         ensures ok { IfOk result (IsStepped (ops.NewClass c bases.now) self.old self.new) }
         ensures err { OnErr result (self.new ≡ self.old) }
+        ensures early { (refusal : reply.Reply) → IsReplyTo (ops.NewClass c bases.now) self.old refusal
+            → IsTrue (is_early refusal) → IsOk result }
     {
         self.classes.define(c, bases)
     }
 
     /// `c.n = v`, in the class's own namespace. Refused with `NoAttr` for an object as value that isn't made, then
-    /// `NoClass`, then `Immutable` for `object`. Where it is refused, and where memory runs out, nothing changes.
+    /// `NoClass`, then `Immutable` for `object`. Where it is refused, and where memory runs out, nothing changes. It
+    /// takes memory only for a name that isn't there.
     pub fn put(&mut self, c: Class, n: Name, v: Value) -> Result<Reply, AllocError>
         ensures ok { IfOk result (IsStepped (ops.TypeSet c n v) self.old self.new) }
         ensures err { OnErr result (self.new ≡ self.old) }
+        ensures early { (refusal : reply.Reply) → IsReplyTo (ops.TypeSet c n v) self.old refusal
+            → IsTrue (is_early refusal) → IsOk result }
+        ensures there { IsSome (value_at n (world.own_of (world.row_of self.old.classes c))) → IsOk result }
     {
         match self.put_reply(c, &v) {
             Reply::Done => {
@@ -114,14 +133,20 @@ impl Types {
     pub fn rebase(&mut self, c: Class, bases: &Bases) -> Result<Reply, AllocError>
         ensures ok { IfOk result (IsStepped (ops.SetBases c bases.now) self.old self.new) }
         ensures err { OnErr result (self.new ≡ self.old) }
+        ensures early { (refusal : reply.Reply) → IsReplyTo (ops.SetBases c bases.now) self.old refusal
+            → IsTrue (is_early refusal) → IsOk result }
     {
         self.classes.rebase(c, bases)
     }
 
-    /// The reply that `define`, `put`, `cut` or `rebase` would give to the operation.
+    /// The reply that `define`, `put`, `cut` or `rebase` would give to the operation. It takes memory for new orders
+    /// alone.
     pub fn would(&self, op: &Op) -> Result<Reply, AllocError>
         requires { IsTrue (is_class_write op.now) }
-        ensures { IfOk result (IsReplyTo op.now self.now) }
+        ensures reply { IfOk result (IsReplyTo op.now self.now) }
+        ensures names { IsTrue (changes_no_order op.now) → IsOk result }
+        ensures early { (refusal : reply.Reply) → IsReplyTo op.now self.now refusal
+            → IsTrue (is_early refusal) → IsOk result }
     {
         match op {
             Op::NewClass(c, bases) => Ok(reply_of(self.classes.plan_class(*c, bases)?)),
@@ -182,13 +207,18 @@ impl Types {
     }
 
     /// The class and all classes below it, each once, a class after its direct subclasses. Nothing below a class that
-    /// `stop` marks, by number, is entered. The one error is out of memory.
+    /// `stop` marks, by number, is entered. Where all classes below a marked one are marked, the list has each unmarked
+    /// class below c, and each class stands after the unmarked ones below it. The one error is out of memory.
     pub fn below(&self, c: Class, stop: &[bool]) -> Result<Vec<u16>, AllocError>
         requires { length stop.now ≡ widths.classes }
         ensures walk { IfOk result (λ list. IsSubclassWalk self.now.classes stop.now c list.items) }
         ensures unmarked { IfOk result (λ list.
             All (λ marked. marked ≡ false) stop.now → IsTrue (is_some (world.row_of self.now.classes c))
             → (d : ℕ) → Contains list.items d ↔ IsTrue (is_in_order c (world.order_in self.now.classes d))) }
+        ensures below { IfOk result (λ list. IsTrue (is_some (world.row_of self.now.classes c))
+            → (d : ℕ) → Contains list.items d → IsTrue (is_in_order c (world.order_in self.now.classes d))) }
+        ensures closed { IfOk result (λ list. AreClosedBelow self.now.classes stop.now
+            → IsTrue (is_some (world.row_of self.now.classes c)) → IsBelow self.now.classes stop.now c list.items) }
     {
         self.classes.below(c, stop)
     }
@@ -205,7 +235,7 @@ impl Types {
     pub fn add_object(&mut self) -> Obj
         requires { self.old.objects < widths.objects }
         ensures number { result ≡ self.old.objects }
-        ensures one_more { self.new ≡ record self.old { objects = self.old.objects + 1 } }
+        ensures one_more { self.new ≡ with_object self.old }
     {
         let o = Obj::new(self.objects).unwrap();
         self.objects += 1;
@@ -216,7 +246,7 @@ impl Types {
     pub fn take_number(&mut self) -> Option<u8>
         ensures least { result ≡ position (λ free. free) self.old.numbers }
         ensures taken { IfSome result (λ q.
-            (q < pass_numbers) × (self.new ≡ record self.old { numbers = slice_set self.old.numbers q false })) }
+            (q < pass_numbers) × (self.new ≡ with_number self.old q false)) }
         ensures out { IfSome result (λ q. slice_index_or self.new.numbers q true ≡ false) }
         ensures none { IfNone result (self.new ≡ self.old) }
     {
@@ -229,15 +259,17 @@ impl Types {
     pub fn free_number(&mut self, q: u8)
         requires below { q < pass_numbers }
         requires taken { slice_index_or self.old.numbers q true ≡ false }
-        ensures { self.new ≡ record self.old { numbers = slice_set self.old.numbers q true } }
+        ensures { self.new ≡ with_number self.old q true }
     {
         self.numbers[usize::from(q)] = true;
     }
 
-    /// Takes the first free tag and counts it as given; none exactly where no tag is free.
+    /// Takes the first free tag and counts it as given, so that it is out; none exactly where no tag is free.
     pub fn next_tag(&mut self) -> Option<u16>
         ensures first { result ≡ slice_get self.old.tags.free 0 }
-        ensures given { IfSome result (λ tag. self.new ≡ record self.old { tags = tags.next_given self.old.tags }) }
+        ensures given { IfSome result (λ tag. self.new ≡ with_tags self.old (tags.next_given self.old.tags)) }
+        ensures was_in { IfSome result (λ tag. ¬ tags.IsOut self.old.tags tag) }
+        ensures out { IfSome result (λ tag. tags.IsOut self.new.tags tag) }
         ensures none { IfNone result (self.new ≡ self.old) }
     {
         self.tags.next()
@@ -246,14 +278,15 @@ impl Types {
     /// Adds a row for a tag that is out, without a goal and kept by `New`, at the end of limbo.
     pub fn to_limbo(&mut self, tag: u16)
         requires { tags.IsOut self.old.tags tag }
-        ensures { self.new ≡ record self.old { tags = tags.in_limbo self.old.tags tag } }
+        ensures { self.new ≡ with_tags self.old (tags.in_limbo self.old.tags tag) }
     {
         self.tags.to_limbo(tag);
     }
 
     /// The row of limbo at this index, and none exactly past the last.
     pub fn limbo_at(&self, i: u16) -> Option<LimboRow>
-        ensures { result ≡ slice_get self.now.tags.limbo i }
+        ensures row { result ≡ slice_get self.now.tags.limbo i }
+        ensures in_limbo { IfSome result (λ row. tags.IsInLimbo self.now.tags row.tag) }
     {
         self.tags.limbo_at(i)
     }
@@ -261,7 +294,7 @@ impl Types {
     /// Gives a row of limbo its goal.
     pub fn set_goal(&mut self, i: u16, goal: u64)
         requires { i < length self.old.tags.limbo }
-        ensures { self.new ≡ record self.old { tags = tags.with_goal self.old.tags i goal } }
+        ensures { self.new ≡ with_tags self.old (tags.with_goal self.old.tags i goal) }
     {
         self.tags.set_goal(i, goal);
     }
@@ -269,7 +302,7 @@ impl Types {
     /// Says of a row of limbo what keeps it there.
     pub fn set_kept(&mut self, i: u16, k: KeptBy)
         requires { i < length self.old.tags.limbo }
-        ensures { self.new ≡ record self.old { tags = tags.with_kept self.old.tags i k } }
+        ensures { self.new ≡ with_tags self.old (tags.with_kept self.old.tags i k) }
     {
         self.tags.set_kept(i, k);
     }
@@ -277,7 +310,7 @@ impl Types {
     /// Moves the tag of a row of limbo to the end of the free tags, and counts it as freed.
     pub fn free_at(&mut self, i: u16)
         requires { i < length self.old.tags.limbo }
-        ensures { self.new ≡ record self.old { tags = tags.with_freed self.old.tags i } }
+        ensures { self.new ≡ with_tags self.old (tags.with_freed self.old.tags i) }
     {
         self.tags.free_at(i);
     }

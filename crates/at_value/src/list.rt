@@ -142,6 +142,16 @@ impl ClassList {
         Ok(ClassList { items })
     }
 
+    /// A list of its own of the same classes. The empty list takes no memory.
+    pub fn copy(&self, alloc: Global) -> Result<ClassList, AllocError>
+        ensures copied { IfOk result (λ copy. copy ≡ self.now) }
+        ensures empty { self.now ≡ [] → IsOk result }
+    {
+        let mut items = Vec::with_capacity(alloc, self.items.len())?;
+        items.extend_from_slice(&self.items)?;
+        Ok(ClassList { items })
+    }
+
     /// The list of the classes with these numbers. The empty list takes no memory.
     pub fn of_numbers(alloc: Global, numbers: &[u16]) -> Result<ClassList, AllocError>
         requires { AreClasses numbers.now }

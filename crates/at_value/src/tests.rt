@@ -71,7 +71,7 @@ fn a_list_of_classes_gives_them_back(rt: HostRuntime) -> Result<(), AllocError> 
     assert_eq!(rt; list.at(0), Some(last));
     assert_eq!(rt; list.at(1), Some(Class::object()));
     assert_eq!(rt; list.at(2), None);
-    let list = ClassList::of_numbers(rt.alloc(), &[0, 254])?;
+    let list = ClassList::of_numbers(rt.alloc(), &[0, 254])?.copy(rt.alloc())?;
     assert_eq!(rt; list.at(1), Some(last));
     Ok(())
 }

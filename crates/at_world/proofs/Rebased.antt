@@ -12,7 +12,7 @@ use Rattle.at_model.specs.Step.{is_made, are_made, is_empty, first_unordered_fro
 use Rattle.at_world.specs.Plain.{PlainState, IsCoherent, order_or_none}
 use Rattle.at_world.specs.Rebasing.{AreNewOrders, first_empty}
 use Rattle.at_model.proofs.StoredOrders.{ordered-from_none}
-use Rattle.at_world.proofs.Rebasing.{made-rebased}
+use Rattle.at_model.proofs.NewBases.{made-rebased}
 
 -- the class that gets the bases is made
 pub subject_made : (w : World) (c : ℕ) (bases : List ℕ) → IsTrue (are_made w (c ∷ bases)) → IsTrue (is_some (row_of w.classes c))

@@ -1,21 +1,20 @@
 -- Orders once a class has other bases, computed from the stored orders.
-use Rattle.std.proofs.Common.{◌≡◌, ◌≢◌, ◌∙◌, ap, sym, refl, subst, ℕ, zero, suc, ◌+◌, ◌<◌, ◌≤◌, ◌==◌, ◌&&◌, ◌||◌, ◌++◌, inl, inr, cond, not, length, get_or, set, List, [], ◌∷◌, map, Option, Some, None, true, false, is_some, IsTrue, arith}
+use Rattle.std.proofs.Common.{◌≡◌, ◌≢◌, ◌∙◌, ap, sym, refl, subst, ℕ, suc, ◌+◌, ◌<◌, ◌≤◌, ◌==◌, ◌&&◌, ◌||◌, ◌++◌, inl, inr, cond, not, length, get_or, set, List, [], ◌∷◌, map, Option, Some, None, true, false, is_some, IsTrue, arith}
 use Rattle.std.specs.List.{list_all, list_any}
-use Rattle.std.proofs.lemmas.Bool.{cases_eq, cases_lt, and_parts, or_parts, or_cases, or_left, or_right, eq-eqb, eqb-true, eqb-false, false≢true, false_from_ne_true}
-use Rattle.std.proofs.lemmas.List.{get_or-set_same, get_or-set_other, length-set}
+use Rattle.std.proofs.lemmas.Bool.{cases_eq, cases_lt, and_parts, or_parts, or_cases, eq-eqb, eqb-true, eqb-false, false≢true}
+use Rattle.std.proofs.lemmas.List.{get_or-set_same, get_or-set_other}
 use Rattle.at_c3.specs.Merge.{merge_of, order_of_lists}
-use Rattle.at_c3.specs.Laws.{IsSubsequence}
 use Rattle.at_c3.proofs.NumberLemmas.{has}
 use Rattle.at_c3.proofs.RunLemmas.{prefixed-some}
 use Rattle.at_model.specs.declared.rows.ClassRow.{ClassRow}
-use Rattle.at_model.specs.World.{World, row_of, own_of, order_before, all_orders, merged_order, order_of_row, order_within, order_in}
+use Rattle.at_model.specs.World.{row_of, own_of, order_before, all_orders, merged_order, order_within, order_in}
 use Rattle.at_model.specs.Step.{is_in_order, is_empty, rebased}
 use Rattle.at_model.specs.StoredOrders.{AreOrders}
 use Rattle.at_world.specs.Plain.{order_or_none, order_by}
 use Rattle.at_world.specs.Rebasing.{IsNewOrder, AreNewOrders, AreRenewed, due_row}
 use Rattle.at_model.proofs.Subsequences.{subsequence-length, subsequence-has}
-use Rattle.at_model.proofs.Orders.{parts_of, orders_preserved, order_of_row-preserved_parts, order_within-more, made-from_order, not_made, order_begins, has_own_class, rest_order, made_below}
-use Rattle.at_model.proofs.OrderLaws.{orders_are_merges}
+use Rattle.at_model.proofs.Orders.{parts_of, orders_preserved, order_within-more, made-from_order, not_made, order_begins, rest_order, made_below}
+use Rattle.at_model.proofs.NewBases.{order_in-apart, order_by_bases, made-rebased}
 
 -- Stored orders
 
@@ -44,22 +43,11 @@ base_is_shorter classes orders d b row are at base =
 
 -- Classes above which the changed class doesn't stand
 
-order_within-apart : (n : ℕ) (classes : List (Option ClassRow)) (c d : ℕ) (row : Option ClassRow) (order : List ℕ) → order_within n classes d ≡ Some order
-    → has c order ≡ false → order_within n (set classes c row) d ≡ Some order
-order_within-apart zero classes c d row order is apart = cc
-order_within-apart (suc n) classes c d row order is apart =
-    let other : d ≢ c = λ e. false≢true (sym apart ∙ ap (λ x. has x order) (sym e) ∙ has_own_class (suc n) classes d order is) in
-    let still : (p : List ℕ) → IsSubsequence p order → has c p ≡ false = λ p part. false_from_ne_true (has c p) (λ at. false≢true (sym apart ∙ subsequence-has c p order part at)) in
-    ap (order_of_row (order_within n (set classes c row)) d) (get_or-set_other classes c d row None other)
-    ∙ order_of_row-preserved_parts (order_within n classes) (order_within n (set classes c row)) d (row_of classes d) order is (λ b p at part _. order_within-apart n classes c b row p at (still p part))
-
 -- they keep their orders
-pub order_in-apart : (classes : List (Option ClassRow)) (orders : List (List ℕ)) (c d : ℕ) (row : Option ClassRow) → AreOrders classes orders
+order-apart : (classes : List (Option ClassRow)) (orders : List (List ℕ)) (c d : ℕ) (row : Option ClassRow) → AreOrders classes orders
     → IsTrue (is_some (row_of classes d)) → has c (get_or orders d []) ≡ false → IsNewOrder (set classes c row) orders d
-order_in-apart classes orders c d row are made apart =
-    ap (λ n. order_within (suc n) (set classes c row) d) (length-set classes c row)
-    ∙ order_within-apart (suc (length classes)) classes c d row (get_or orders d []) (are d made) apart
-    ∙ sym (stored_order-there classes orders d are made)
+order-apart classes orders c d row are made apart =
+    order_in-apart classes orders c d row are made apart ∙ are d made ∙ sym (stored_order-there classes orders d are made)
 
 -- Orders by the lists of the bases
 
@@ -67,19 +55,10 @@ there_from_list : (list : List ℕ) → is_empty list ≡ false → order_or_non
 there_from_list [] full = absurd (false≢true (sym full))
 there_from_list (c ∷ cs) full = refl
 
-map_agree_on : (f g : ℕ → Option (List ℕ)) (bases : List ℕ) → ((b : ℕ) → has b bases ≡ true → f b ≡ g b) → map f bases ≡ map g bases
-map_agree_on f g [] same = refl
-map_agree_on f g (b ∷ bases) same =
-    ap (λ r. r ∷ map f bases) (same b (or_left (b == b) (has b bases) (eq-eqb b b refl)))
-    ∙ ap (λ rs. g b ∷ rs) (map_agree_on f g bases (λ d at. same d (or_right (b == d) (has d bases) at)))
-
 -- where the lists of the bases are their orders, they give the order of the class
 pub order_by-right : (changed : List (Option ClassRow)) (orders : List (List ℕ)) (d : ℕ) (row : ClassRow) → row_of changed d ≡ Some row
     → ((b : ℕ) → has b row.bases ≡ true → IsNewOrder changed orders b) → order_in changed d ≡ order_by orders d row.bases
-order_by-right changed orders d row at each =
-    let w : World = record { classes = changed; objects = []; dicts = [] } in
-    orders_are_merges w d ∙ ap (order_of_row (order_in changed) d) at
-    ∙ ap (λ rs. merged_order d row.bases (all_orders rs)) (map_agree_on (order_in changed) (λ b. order_or_none (get_or orders b [])) row.bases each)
+order_by-right changed orders d row at each = order_by_bases changed (λ b. order_or_none (get_or orders b [])) d row at each
 
 all_there : (orders : List (List ℕ)) (bases : List ℕ) → list_any (λ b. is_empty (get_or orders b [])) bases ≡ false
     → all_orders (map (λ b. order_or_none (get_or orders b [])) bases) ≡ Some (map (λ b. get_or orders b []) bases)
@@ -140,7 +119,7 @@ renewed_first classes was c bases order are made apart room is =
     let changed = rebased classes c bases in
     let all = and_parts (is_some (row_of classes c)) (list_all (λ x. is_some (row_of classes x)) bases) made in
     let each : (b : ℕ) → has b bases ≡ true → IsNewOrder changed was b = λ b at.
-    let base = apart_base classes was c b bases are all.1 apart at in order_in-apart classes was c b (Some row) are base.0 base.1 in
+    let base = apart_base classes was c b bases are all.1 apart at in order-apart classes was c b (Some row) are base.0 base.1 in
     let subject : IsNewOrder changed (set was c order) c =
     order_by-right changed was c row (get_or-set_same classes c (Some row) None (made_below classes c all.0)) each
     ∙ sym is ∙ ap order_or_none (sym (get_or-set_same was c order [] room)) in
@@ -148,7 +127,7 @@ renewed_first classes was c bases order are made apart room is =
       subject = subject;
       apart = λ d there alone. elim (cases_eq d c) [
         | inl same ↦ subst (IsNewOrder changed (set was c order)) (sym same) subject
-        | inr other ↦ order_in-apart classes was c d (Some row) are there alone ∙ ap order_or_none (sym (get_or-set_other was c d order [] other))
+        | inr other ↦ order-apart classes was c d (Some row) are there alone ∙ ap order_or_none (sym (get_or-set_other was c d order [] other))
       ];
       shorter = λ d there short.
           let begins = order_begins (suc (length classes)) classes d (get_or was d []) (are d there) in
@@ -246,18 +225,6 @@ renewed_round changed classes was c long next orders so_far all = record {
   ];
   as_long = λ d there is_long below. absurd (omega arith);
 }
-
--- no class is made or lost
-pub made-rebased : (classes : List (Option ClassRow)) (c : ℕ) (bases : List ℕ) → IsTrue (is_some (row_of classes c)) → (d : ℕ)
-    → is_some (row_of (rebased classes c bases) d) ≡ is_some (row_of classes d)
-made-rebased classes c bases made d =
-    let row : Option ClassRow = Some (record { bases = bases; own = own_of (row_of classes c) }) in
-    elim (cases_eq d c) [
-      | inl same ↦
-          ap (λ x. is_some (row_of (set classes c row) x)) same ∙ ap is_some (get_or-set_same classes c row None (made_below classes c made))
-          ∙ sym (ap (λ x. is_some (row_of classes x)) same ∙ made)
-      | inr other ↦ ap is_some (get_or-set_other classes c d row None other)
-    ]
 
 -- after the last round
 pub renewed_all : (classes : List (Option ClassRow)) (was : List (List ℕ)) (c long : ℕ) (bases : List ℕ) (orders : List (List ℕ)) → IsTrue (is_some (row_of classes c))

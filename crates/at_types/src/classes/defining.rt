@@ -1,10 +1,11 @@
 //! The making of classes.
-ghost use Rattle.std.specs.Prelude.{◌≡◌, ◌<◌, Some, None, IsTrue, IfOk, IfErr, OnErr, false};
+ghost use Rattle.std.specs.Prelude.{◌≡◌, ◌<◌, Some, None, IsTrue, IsOk, IfOk, IfErr, OnErr, false};
 ghost use Rattle.at_value.specs.Widths as widths;
 ghost use Rattle.at_value.specs.declared.operation.Op.TheVariants as ops;
 ghost use Rattle.at_model.specs.World as world;
 ghost use Rattle.at_model.specs.Step as steps;
 ghost use Rattle.at_types.specs.Kept.{AreWhole};
+ghost use Rattle.at_types.specs.Memory.{is_early};
 ghost use Rattle.at_types.specs.ClassSteps.{world_of, reply_to, plan_reply, IsClassStep, new_class};
 
 use super::links::link;
@@ -18,6 +19,7 @@ impl Classes {
     pub(crate) fn define(&mut self, c: Class, bases: &Bases) -> Result<Reply, AllocError>
         ensures ok { IfOk result (IsClassStep (ops.NewClass c bases.now) self.old self.new) }
         ensures err { OnErr result (self.new ≡ self.old) }
+        ensures early { IsTrue (is_early (reply_to self.old (ops.NewClass c bases.now))) → IsOk result }
     {
         match self.plan_class(c, bases)? {
             Ok(order) => {
@@ -36,6 +38,7 @@ impl Classes {
 
     /// The order that the class would have, or the reply that refuses it.
     pub(crate) fn plan_class(&self, c: Class, bases: &Bases) -> Result<Plan<ClassList>, AllocError>
+        ensures early { IsTrue (is_early (reply_to self.now (ops.NewClass c bases.now))) → IsOk result }
         ensures reply { IfOk result (λ plan. plan_reply plan ≡ reply_to self.now (ops.NewClass c bases.now)) }
         ensures order { IfOk result (λ plan. IfOk plan
             (λ order. world.order_in (new_class self.now c bases.now) c ≡ Some order)) }
@@ -61,6 +64,8 @@ impl Classes {
         requires range { c < widths.classes }
         requires free { world.row_of self.now c ≡ None }
         requires made { IsTrue (steps.are_made (world_of self.now) bases.now) }
+        ensures early { is_early
+            (steps.if_ordered (world_of self.now) (steps.with_class (world_of self.now) c bases.now)).reply ≡ false }
         ensures reply { IfOk result (λ plan. plan_reply plan
             ≡ (steps.if_ordered (world_of self.now) (steps.with_class (world_of self.now) c bases.now)).reply) }
         ensures order { IfOk result (λ plan. IfOk plan

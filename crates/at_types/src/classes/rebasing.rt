@@ -1,11 +1,12 @@
 //! The assignment of bases to a class that is made.
-ghost use Rattle.std.specs.Prelude.{◌≡◌, ◌∷◌, ℕ, Some, None, IsTrue, IfOk, IfErr, OnOk, OnErr, length, is_some, map, replicate, false, ◌<◌, slice_set};
+ghost use Rattle.std.specs.Prelude.{◌≡◌, ◌∷◌, ℕ, Some, None, IsTrue, IsOk, IfOk, IfErr, OnOk, OnErr, length, is_some, map, replicate, false, ◌<◌, slice_set};
 ghost use Rattle.at_value.specs.Widths as widths;
 ghost use Rattle.at_value.specs.declared.operation.Op.TheVariants as ops;
 ghost use Rattle.at_model.specs.World as world;
 ghost use Rattle.at_model.specs.Step as steps;
 ghost use Rattle.at_types.specs.ClassSteps.{world_of, reply_to, plan_reply, IsClassStep};
 ghost use Rattle.at_types.specs.Kept.{AreWhole};
+ghost use Rattle.at_types.specs.Memory.{is_early};
 ghost use Rattle.at_types.specs.Links.{missing_from};
 ghost use Rattle.at_types.specs.Subclasses.{IsWholeWalk};
 ghost use Rattle.at_types.specs.Renewing.{AreRenewed, AreReplaced, order_now, new_bases, first_lost};
@@ -23,6 +24,7 @@ impl Classes {
     pub(crate) fn rebase(&mut self, c: Class, bases: &Bases) -> Result<Reply, AllocError>
         ensures ok { IfOk result (IsClassStep (ops.SetBases c bases.now) self.old self.new) }
         ensures err { OnErr result (self.new ≡ self.old) }
+        ensures early { IsTrue (is_early (reply_to self.old (ops.SetBases c bases.now))) → IsOk result }
     {
         match self.plan_bases(c, bases)? {
             Ok(mut renewed) => {
@@ -43,6 +45,7 @@ impl Classes {
         c: Class,
         bases: &Bases,
     ) -> Result<Plan<Vec<Option<NewOrder>>>, AllocError>
+        ensures early { IsTrue (is_early (reply_to self.now (ops.SetBases c bases.now))) → IsOk result }
         ensures reply { IfOk result (λ plan. plan_reply plan ≡ reply_to self.now (ops.SetBases c bases.now)) }
         ensures orders { IfOk result (λ plan. IfOk plan
             (λ renewed. AreRenewed self.now (steps.rebased self.now c bases.now) renewed.items)) }
@@ -89,6 +92,8 @@ impl Classes {
         requires whole { AreWhole self.now }
         requires made { IsTrue (steps.are_made (world_of self.now) (c ∷ bases.now)) }
         requires acyclic { steps.is_cycle (world_of self.now) c bases.now ≡ false }
+        ensures early { is_early
+            (steps.if_ordered (world_of self.now) (steps.with_bases (world_of self.now) c bases.now)).reply ≡ false }
         ensures reply { IfOk result (λ plan. plan_reply plan
             ≡ (steps.if_ordered (world_of self.now) (steps.with_bases (world_of self.now) c bases.now)).reply) }
         ensures orders { IfOk result (λ plan. IfOk plan

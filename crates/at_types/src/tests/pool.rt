@@ -67,4 +67,5 @@ fn numbers_and_objects_are_counted(rt: HostRuntime) -> Result<(), Fail> {
 fn laws_hold() {
     laws::order_law();
     laws::standing_laws();
+    laws::run_law();
 }
