@@ -90,9 +90,9 @@ call_stands (calls.given (Some tag)) old new w stands is =
     (subst (λ t. StandsFor t w) (sym is.1) (record { classes = stands.classes; objects = stands.objects }), tt)
 call_stands (calls.dropped tag) old new w stands is =
     (subst (λ t. StandsFor t w) (sym is.1) (record { classes = stands.classes; objects = stands.objects }), tt)
-call_stands (calls.aimed i goal) old new w stands is =
+call_stands (calls.goal_set i goal) old new w stands is =
     (subst (λ t. StandsFor t w) (sym is.1) (record { classes = stands.classes; objects = stands.objects }), tt)
-call_stands (calls.blamed i kept) old new w stands is =
+call_stands (calls.kept_set i kept) old new w stands is =
     (subst (λ t. StandsFor t w) (sym is.1) (record { classes = stands.classes; objects = stands.objects }), tt)
 call_stands (calls.freed i) old new w stands is =
     (subst (λ t. StandsFor t w) (sym is.1) (record { classes = stands.classes; objects = stands.objects }), tt)
@@ -157,12 +157,12 @@ call_holds (calls.given (Some tag)) old new holds is =
 call_holds (calls.dropped tag) old new holds is =
     let s = old.tags in
     with_pool old new (in_limbo s tag) holds (pool-in_limbo s.size s.given s.freed tag s.free s.limbo (new_row tag) holds.pool is.0 refl) is.1
-call_holds (calls.aimed i goal) old new holds is =
+call_holds (calls.goal_set i goal) old new holds is =
     let s = old.tags in
     let row = row_at s.limbo i in
     with_pool old new (with_goal s i goal) holds
     (pool-with_row s.size s.given s.freed i s.free s.limbo row (record row { goal = Some goal }) holds.pool is.0 (row_is s.limbo i is.0) refl) is.1
-call_holds (calls.blamed i kept) old new holds is =
+call_holds (calls.kept_set i kept) old new holds is =
     let s = old.tags in
     let row = row_at s.limbo i in
     with_pool old new (with_kept s i kept) holds

@@ -30,8 +30,8 @@ pub data Call : Type 0 where
   -- `next_tag` with its answer, `to_limbo`, `set_goal`, `set_kept` and `free_at`
   given : Option ℕ → Call
   dropped : ℕ → Call
-  aimed : ℕ → ℕ → Call
-  blamed : ℕ → kept_by.KeptBy → Call
+  goal_set : ℕ → ℕ → Call
+  kept_set : ℕ → kept_by.KeptBy → Call
   freed : ℕ → Call
 
 -- an operation that changes no class and makes no object
@@ -76,8 +76,8 @@ IsCall (taken q) old new = IsTaken q old new
 IsCall (returned q) old new = (q < pass_numbers) × (new ≡ with_number old q true)
 IsCall (given tag) old new = (tag ≡ slice_get old.tags.free 0) × IsGiven tag old new
 IsCall (dropped tag) old new = IsOut old.tags tag × (new ≡ with_tags old (in_limbo old.tags tag))
-IsCall (aimed i goal) old new = (i < length old.tags.limbo) × (new ≡ with_tags old (with_goal old.tags i goal))
-IsCall (blamed i kept) old new = (i < length old.tags.limbo) × (new ≡ with_tags old (with_kept old.tags i kept))
+IsCall (goal_set i goal) old new = (i < length old.tags.limbo) × (new ≡ with_tags old (with_goal old.tags i goal))
+IsCall (kept_set i kept) old new = (i < length old.tags.limbo) × (new ≡ with_tags old (with_kept old.tags i kept))
 IsCall (freed i) old new = (i < length old.tags.limbo) × (new ≡ with_tags old (with_freed old.tags i))
 
 -- these calls, one after another, lead from the one state to the other
@@ -95,8 +95,8 @@ operations_of (taken q) = []
 operations_of (returned q) = []
 operations_of (given tag) = []
 operations_of (dropped tag) = []
-operations_of (aimed i goal) = []
-operations_of (blamed i kept) = []
+operations_of (goal_set i goal) = []
+operations_of (kept_set i kept) = []
 operations_of (freed i) = []
 
 abbrev pub operations : List Call → List op.Op
@@ -113,8 +113,8 @@ IsAnswer w (taken q) = Unit {0}
 IsAnswer w (returned q) = Unit {0}
 IsAnswer w (given tag) = Unit {0}
 IsAnswer w (dropped tag) = Unit {0}
-IsAnswer w (aimed i goal) = Unit {0}
-IsAnswer w (blamed i kept) = Unit {0}
+IsAnswer w (goal_set i goal) = Unit {0}
+IsAnswer w (kept_set i kept) = Unit {0}
 IsAnswer w (freed i) = Unit {0}
 
 -- each call's, in the world after the operations of those before it

@@ -48,6 +48,7 @@ fn may_cross_threads<T: Send + Sync>(_value: &T) {}
 fn numbers_and_objects_are_counted(rt: HostRuntime) -> Result<(), Fail> {
     let mut types = Types::new(rt.alloc(), 0)?;
     may_cross_threads(&types);
+    types.invariant();
     assert_eq!(rt; types.next_tag(), None);
     for q in 0..63u8 {
         assert_eq!(rt; types.take_number(), Some(q));
