@@ -11,7 +11,7 @@ use Rattle.at_line.specs.declared.line.What.TheVariants as whats
 use Rattle.at_model.specs.World.{World}
 use Rattle.at_model.specs.Step.{step, is_write}
 use Rattle.at_model.specs.History.{replay}
-use Rattle.at_view.specs.declared.HistoryView.{HistoryView}
+use Rattle.at_view.specs.declared.view.HistoryView.{HistoryView}
 
 -- the history of writes, and the views by number, none where a view is spent; a new view has the next number, so that no
 -- number is used again

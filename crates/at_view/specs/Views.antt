@@ -1,0 +1,35 @@
+-- The view of a pass that has done nothing, from which each other view is made.
+use Rattle.std.specs.Prelude.{true, false, [], replicate}
+use Rattle.at_value.specs.declared.limits.Limits.{Limits}
+use Rattle.at_view.specs.declared.view.TypeLists.{TypeLists}
+use Rattle.at_view.specs.declared.view.View.{View}
+use Rattle.at_view.specs.Counts.{intent_words}
+
+abbrev pub no_limits : Limits
+no_limits = record { place_max = 0; head_max = 0; tags = 0 }
+
+abbrev pub no_lists : TypeLists
+no_lists = record { numbers = []; next_birth = 0; pool = []; limbo = [] }
+
+-- the view that is spent: it isn't live, and knows nothing
+abbrev pub blank : View
+blank = record {
+  who = record { live = false; number = 0; limits = no_limits; children = [] };
+  history = record { birth = 0; seen = []; own = [] };
+  joined = record { first = []; second = [] };
+  intent = record { words = replicate intent_words 0; fresh = false };
+  types = record { held = false; since = []; entered = 0; lists = no_lists; tags = []; keys = []; global = 0 };
+  rows = [];
+  known = [];
+  looks = [];
+  tags = record { online = false; global = 0; held = [] };
+  read = record { reading = false; entry = 0; at = 0; fields = [] };
+  write = record { writing = false; entry = 0; base = 0; fields = [] };
+  scan = record { scans = []; clears = [] };
+  trace = [];
+  kept = [];
+}
+
+-- the view of the first pass of a table with these limits
+abbrev pub first_view : Limits → View
+first_view limits = record blank { who = record { live = true; number = 0; limits = limits; children = [] } }
