@@ -20,7 +20,10 @@ inline = 1
 abbrev pub dictionary : ℕ
 dictionary = 2
 
--- what the rule of the table reads of a head: the layout, and the row
+abbrev pub class_of : ℕ → ℕ
+class_of word = word / 2 ^ sequence_bits % 2 ^ class_bits
+
+-- the layout, and the row
 pub record Shape : Type 0 where
   pub layout : ℕ
   pub row : ℕ

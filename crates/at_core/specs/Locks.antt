@@ -5,7 +5,11 @@ use Rattle.at_value.specs.declared.operation.Op as op
 use Rattle.at_model.specs.World.{World}
 use Rattle.at_model.specs.History.{replay}
 use Rattle.at_line.specs.Kept.{rows_of}
-use Rattle.at_view.specs.declared.view.RowView.{RowView}
+use Rattle.at_view.specs.declared.view.Hold.{Hold}
+use Rattle.at_view.specs.declared.view.RowHold.{RowHold}
+use Rattle.at_view.specs.declared.view.RowCopy.{RowCopy}
+use Rattle.at_view.specs.declared.view.RowWords.{RowWords}
+use Rattle.at_view.specs.Views.{no_hold, no_row_words}
 use Rattle.at_view.specs.declared.view.View.{View}
 use Rattle.at_view.specs.Words.{Word, type_lock, row_lock}
 use Rattle.at_core.specs.declared.lock.Lock as lock
@@ -23,27 +27,22 @@ slot_of (locks.Row o) = suc o
 
 -- What a view knows of a lock
 
-abbrev pub no_row : RowView
-no_row = record { object = 0; held = false; since = []; entered = 0; head = 0; words = [] }
+-- of the row of an object: the first entry counts
+abbrev pub hold_at : ℕ → List RowHold → Hold
+hold_at o [] = no_hold
+hold_at o (row ∷ rows) = if o == row.object then row.hold else hold_at o rows
 
--- what is known of the row of an object: the first entry counts
-abbrev pub row_at : ℕ → List RowView → RowView
-row_at o [] = no_row
-row_at o (row ∷ rows) = if o == row.object then row else row_at o rows
+abbrev pub hold_of : lock.Lock → View → Hold
+hold_of locks.Types v = v.types.hold
+hold_of (locks.Row o) v = hold_at o v.holds
 
 abbrev pub holds : lock.Lock → View → Bool
-holds locks.Types v = v.types.held
-holds (locks.Row o) v = (row_at o v.rows).held
+holds l v = (hold_of l v).held
 
--- the history when it took the lock, or at its last write since
-abbrev pub since : lock.Lock → View → List op.Op
-since locks.Types v = v.types.since
-since (locks.Row o) v = (row_at o v.rows).since
-
--- how many writes it had seen when it took the lock
-abbrev pub entered : lock.Lock → View → ℕ
-entered locks.Types v = v.types.entered
-entered (locks.Row o) v = (row_at o v.rows).entered
+-- the copies of the words of an object's row: the first entry counts
+abbrev pub copy_at : ℕ → List RowCopy → RowWords
+copy_at o [] = no_row_words
+copy_at o (row ∷ rows) = if o == row.object then row.words else copy_at o rows
 
 -- What a lock protects
 
@@ -59,12 +58,12 @@ Protects opened l prefix history =
     (point : List op.Op) → IsPrefix prefix point → IsPrefix point history → IsUnchanged l (replay opened prefix) (replay opened point)
 
 -- No write after so many, but those at the own places, has the object among its rows.
-abbrev pub IsLeftAlone : World → ℕ → List ℕ → List op.Op → ℕ → Type 0
-IsLeftAlone opened entered own history o =
+abbrev pub AvoidsRow : World → ℕ → List ℕ → List op.Op → ℕ → Type 0
+AvoidsRow opened entered own history o =
     (point : List op.Op) (operation : op.Op) → IsPrefix (point ++ operation ∷ []) history → entered ≤ length point → ¬ Contains own (suc (length point))
     → ¬ Contains (rows_of (replay opened point) operation) o
 
 -- so it is with the object of a row that is held; the lock of the types says nothing of writes to objects
 abbrev pub Excludes : World → lock.Lock → ℕ → List ℕ → List op.Op → Type 0
 Excludes opened locks.Types entered own history = Unit {0}
-Excludes opened (locks.Row o) entered own history = IsLeftAlone opened entered own history o
+Excludes opened (locks.Row o) entered own history = AvoidsRow opened entered own history o

@@ -1,8 +1,8 @@
 -- The rule of the shared table: what is true of its words, of the values at home and of all views between any two steps.
 -- Each part is a definition of its own, over what it reads and no more. Beside the state stands what exists in proofs
 -- alone: the history, and the lists that the types have or the holder of their lock.
-use Rattle.std.specs.Prelude.{ℕ, zero, suc, ◌≡◌, ◌+◌, ◌<◌, ◌≤◌, ◌==◌, ◌&&◌, ◌^◌, nat_lt, Bool, true, false, List, [], ◌∷◌, length, map, count_by, sum_by, Option, Some, slice_index_or, if◌then◌else◌}
-use mathlib.Core.Option.{some}
+use Rattle.std.specs.Prelude.{ℕ, zero, suc, ◌≡◌, ◌+◌, ◌<◌, ◌≤◌, ◌==◌, ◌&&◌, ◌^◌, nat_lt, Bool, true, false, IsTrue, List, [], ◌∷◌, length, map, count_by, sum_by, Option, Some, slice_index_or, if◌then◌else◌}
+use mathlib.Core.Option.{some, none}
 use mathlib.Core.Option as maybe
 use mathlib.Core.List.{IsPrefix}
 use lib.ListN.{get_elem?}
@@ -19,15 +19,19 @@ use Rattle.at_types.specs.Tags.{times}
 use Rattle.at_view.specs.declared.view.JoinView.{JoinView}
 use Rattle.at_view.specs.declared.view.LimboTag.{LimboTag}
 use Rattle.at_view.specs.declared.view.TypeLists.{TypeLists}
+use Rattle.at_view.specs.declared.view.TypesWords.{TypesWords}
+use Rattle.at_view.specs.declared.view.RowWords.{RowWords}
 use Rattle.at_view.specs.declared.view.View.{View}
 use Rattle.at_view.specs.Counts.{passes, keys, inline_values}
-use Rattle.at_view.specs.Words.{Words, table_words, number_of, is_there, place, type_lock, row_lock, head, tag, key, inline_value, global_sequence}
+use Rattle.at_view.specs.Views.{blank}
+use Rattle.at_view.specs.Words.{Words, table_words, number_of, is_there, place, head, tag, key, inline_value, global_sequence}
 use Rattle.at_core.specs.declared.lock.Lock as lock
+use Rattle.at_core.specs.declared.lock.Lock.TheVariants as locks
 use Rattle.at_core.specs.declared.stored.Stored.{Stored}
 use Rattle.at_core.specs.declared.stored.Stored.TheVariants as stored
 use Rattle.at_core.specs.Heads.{Shape, shape_of, HasDictionary}
-use Rattle.at_core.specs.Locks.{lock_word, Protects, Excludes}
-use Rattle.at_core.specs.Reads.{PastRead, past_read, KinRead, kin_read, NumberRead, number_read, HolderRead, holder_read, KeptRead, kept_read, ListsRead, lists_read, TypesCopy, types_copy, RowCopy, row_copy, join_read, LimitRead, limit_read}
+use Rattle.at_core.specs.Locks.{lock_word, slot_of, Protects, Excludes}
+use Rattle.at_core.specs.Reads.{PastRead, past_read, fresh_read, KinRead, kin_read, NumberRead, number_read, HolderRead, holder_read, KeptRead, kept_read, TypesRead, types_read, RowRead, row_read, join_read, LimitRead, limit_read}
 
 -- a slot: none while the pass that has it out has its value too
 abbrev pub Slot : Type 0
@@ -47,49 +51,40 @@ Each P xs = (i : ℕ) (x : _) → get_elem? xs i ≡ some x → P i x
 abbrev pub weight : Bool → ℕ
 weight b = if b then 1 else 0
 
--- The history
+-- Base 1: the history and the passes
 
 -- The history has one operation a place, and each was a write at its point. Each pass has seen a prefix of it. Each place is
--- own to exactly one pass, once, and that pass has seen the history up to it. A pass that was taken in has none.
+-- own to exactly one pass, once, and that pass has seen the history up to it.
 pub record HistoryRule (opened : World) (count : ℕ) (history : List op.Op) (views : List PastRead) : Type 0 where
   pub counted : count ≡ length history
   pub proper : IsProper opened history
   pub begun : Each (λ i v. IsPrefix v.seen history) views
   pub owned : (p : ℕ) → sum_by (λ v. times p v.own) views ≡ weight (nat_lt 0 p && nat_lt p (suc (length history)))
   pub reached : Each (λ i v. (p : ℕ) → 0 < times p v.own → p ≤ length v.seen) views
-  pub spent : Each (λ i v. v.live ≡ false → v.own ≡ []) views
 
--- The places to which passes are on their way go no further than one a pass past the limit.
-pub record RoomRule (place_max : ℕ) (count : ℕ) (views : List PastRead) : Type 0 where
-  pub room : count + count_by (λ v. v.fresh) views ≤ place_max + passes
-  pub spent : Each (λ i v. v.live ≡ false → v.fresh ≡ false) views
+-- the places to which passes are on their way go no further than one a pass past the limit
+abbrev pub RoomRule : ℕ → ℕ → List Bool → Type 0
+RoomRule place_max count fresh = count + count_by (λ b. b) fresh ≤ place_max + passes
 
 abbrev pub is_born : ℕ → KinRead → Bool
 is_born birth v = v.live && (v.birth == birth)
 
 -- Each live pass but the first was split off exactly one live pass, or off one that this took in, and that one was born
--- earlier. Births are distinct, and those to come are above all.
+-- earlier. The births of live passes and of those that were taken in are distinct, and those to come are above all.
 pub record KinRule (next_birth : ℕ) (views : List KinRead) : Type 0 where
   pub children : (b : ℕ) → 0 < b → sum_by (λ v. times b v.children) views ≡ count_by (is_born b) views
-  pub distinct : (b : ℕ) → count_by (is_born b) views ≤ 1
+  pub distinct : (b : ℕ) → count_by (is_born b) views + sum_by (λ v. times b v.kept) views ≤ 1
   pub later : Each (λ i v. (b : ℕ) → 0 < times b v.children → v.birth < b) views
   pub below : Each (λ i v. v.birth < next_birth) views
-  pub spent : Each (λ i v. v.live ≡ false → v.children ≡ []) views
+  pub kept_below : Each (λ i v. (b : ℕ) → 0 < times b v.kept → b < next_birth) views
 
--- Base 1: the history and the passes.
-pub record PastRule (opened : World) (place_max count next_birth : ℕ) (history : List op.Op) (pasts : List PastRead) (kins : List KinRead) : Type 0 where
-  pub history_is : HistoryRule opened count history pasts
-  pub room_is : RoomRule place_max count pasts
-  pub kin_is : KinRule next_birth kins
-
--- Locks and numbers
+-- Base 2: the locks, and the numbers of the passes
 
 -- A lock's word is the number of the pass that holds it and 1, or 0 where none does; at most one pass holds it.
 pub record LockRule (word : ℕ) (views : List HolderRead) : Type 0 where
   pub named : Each (λ i v. v.held ≡ true → word ≡ suc v.number) views
   pub one : (i j : ℕ) (v w : HolderRead) → get_elem? views i ≡ some v → get_elem? views j ≡ some w → v.held ≡ true → w.held ≡ true → i ≡ j
   pub holder : 0 < word → (i : ℕ) × (v : HolderRead) × (get_elem? views i ≡ some v) × (v.held ≡ true)
-  pub spent : Each (λ i v. v.live ≡ false → v.held ≡ false) views
 
 abbrev pub has_number : ℕ → NumberRead → Bool
 has_number n v = v.live && (v.number == n)
@@ -100,20 +95,17 @@ pub record NumberRule (numbers : List Bool) (views : List NumberRead) : Type 0 w
   pub each : (n : ℕ) → count_by (has_number n) views + weight (slice_index_or numbers n false) ≡ weight (nat_lt n passes)
   pub all : count_by (λ v. v.live) views + count_by (λ free. free) numbers ≡ passes
 
--- Base 2: the locks and the numbers of the passes.
-pub record HolderRule (words : Words) (numbers : List Bool) (holders : lock.Lock → List HolderRead) (named : List NumberRead) : Type 0 where
-  pub locks_are : (l : lock.Lock) → LockRule (words (lock_word l)) (holders l)
-  pub numbers_are : NumberRule numbers named
-
--- Slots
+-- Base 3: the slots
 
 -- what a row of limbo is to the passes
 abbrev pub limbo_tag : LimboRow → LimboTag
 limbo_tag row = record { tag = row.tag; goal = row.goal }
 
--- The types stand for the world, and have these free numbers, these free tags and these tags in limbo.
-pub record TypesAgree (t : TypesState) (w : World) (lists : TypeLists) : Type 0 where
+-- The types stand for the world, and have as many tags as there may be, these free numbers, these free tags and these tags
+-- in limbo.
+pub record TypesAgree (tags : ℕ) (w : World) (lists : TypeLists) (t : TypesState) : Type 0 where
   pub stands : StandsFor t w
+  pub size : t.tags.size ≡ tags
   pub numbers : t.numbers ≡ lists.numbers
   pub pool : t.tags.free ≡ lists.pool
   pub limbo : map limbo_tag t.tags.limbo ≡ lists.limbo
@@ -124,53 +116,72 @@ pub record BodyAgrees (shape : Shape) (w : World) (o : ℕ) (body : Dictionary) 
   pub full : HasDictionary shape → body.map ≡ slice_index_or w.dicts o []
   pub empty : ¬ HasDictionary shape → body.map ≡ []
 
--- Base 3: the slots. While a lock is free its slot is at home with a value that agrees with the history. Where an object has
--- the layout of a dictionary, so has the object with which the dictionary that it names was born.
-pub record SlotRule (opened : World) (words : Words) (shapes : ℕ → Shape) (homes : Homes) (history : List op.Op) (lists : TypeLists) : Type 0 where
-  pub types_home : words type_lock ≡ 0 → (t : _) × (get_elem? homes 0 ≡ some (some (Some (stored.Types t)))) × TypesAgree t.value (replay opened history) lists
-  pub body_home : (o : ℕ) → o < objects → words (row_lock o) ≡ 0
-      → (body : Dictionary) × (get_elem? homes (suc o) ≡ some (some (Some (stored.Body body)))) × BodyAgrees (shapes o) (replay opened history) o body
-  pub rows_are : (o : ℕ) → HasDictionary (shapes o) → HasDictionary (shapes (shapes o).row)
+-- What the value of a lock's slot has to agree with: the limits, the world, the lists of the types, and for a row what the
+-- head of its object says.
+abbrev pub Agrees : Limits → World → TypeLists → Shape → lock.Lock → Stored → Type 0
+Agrees limits w lists shape locks.Types x = (t : _) × (x ≡ stored.Types t) × TypesAgree limits.tags w lists t.value
+Agrees limits w lists shape (locks.Row o) x = (body : Dictionary) × (x ≡ stored.Body body) × BodyAgrees shape w o body
 
--- What a held lock keeps
+-- what the head of a row's object says
+abbrev pub shape_under : (ℕ → ℕ) → lock.Lock → Shape
+shape_under heads locks.Types = shape_of 0
+shape_under heads (locks.Row o) = shape_of (heads o)
 
--- What the lock protects is as it was when the pass took it, or as its own last write left it; and no other pass writes an
--- object whose row is held.
+-- the lock is one of the table's
+abbrev pub IsLock : lock.Lock → Type 0
+IsLock l = IsTrue (is_there (lock_word l))
+
+-- While a lock is free its slot is at home with a value that agrees with the history; while it is held the slot is out.
+pub record SlotRule (limits : Limits) (w : World) (lists : TypeLists) (shape : Shape) (l : lock.Lock) (word : ℕ) (home : maybe.Option (maybe.Option Slot)) : Type 0 where
+  pub at_home : word ≡ 0 → (x : Stored) × (home ≡ some (some (Some x))) × Agrees limits w lists shape l x
+  pub out : 0 < word → home ≡ some none
+
+-- where an object has the layout of a dictionary, so has the object with which the dictionary that it names was born
+abbrev pub RowsAre : (ℕ → ℕ) → Type 0
+RowsAre heads = (o : ℕ) → HasDictionary (shape_of (heads o)) → HasDictionary (shape_of (heads (shape_of (heads o)).row))
+
+-- Base 4: what held locks keep
+
+-- What the lock protects is as it was when the pass took it, or as its own last write left it, which it has seen; and no other
+-- pass writes an object whose row is held.
 pub record KeptBy (opened : World) (l : lock.Lock) (history : List op.Op) (v : KeptRead) : Type 0 where
-  pub begun : IsPrefix v.since history
-  pub protects : Protects opened l v.since history
-  pub excludes : Excludes opened l v.entered v.own history
+  pub begun : IsPrefix v.hold.since v.seen
+  pub came : v.hold.entered ≤ length v.hold.since
+  pub protects : Protects opened l v.hold.since history
+  pub excludes : Excludes opened l v.hold.entered v.own history
 
--- Base 4: what held locks keep.
-abbrev pub KeptRule : World → List op.Op → (lock.Lock → List KeptRead) → Type 0
-KeptRule opened history views = (l : lock.Lock) → Each (λ i v. v.held ≡ true → KeptBy opened l history v) (views l)
+abbrev pub KeptRule : World → lock.Lock → List op.Op → List KeptRead → Type 0
+KeptRule opened l history views = Each (λ i v. v.hold.held ≡ true → KeptBy opened l history v) views
 
 -- What the views have beside that
-
--- the holder of the lock of the types has its lists
-abbrev pub ListsRule : TypeLists → List ListsRead → Type 0
-ListsRule lists views = Each (λ i v. v.held ≡ true → v.lists ≡ lists) views
 
 -- the first n values of a function
 abbrev pub listed : {A : Type 0} → ℕ → (ℕ → A) → List A
 listed zero f = []
 listed (suc n) f = f 0 ∷ listed n (λ i. f (suc i))
 
--- The copies of the holder of the lock of the types are the tags, the keys and the global sequence.
-pub record TypesCopied (words : Words) (v : TypesCopy) : Type 0 where
-  pub tags : v.tags ≡ listed classes (λ c. words (tag c))
-  pub keys : v.keys ≡ listed classes (λ c. listed keys (λ i. words (key c i)))
-  pub global : v.global ≡ words global_sequence
+-- the words that the holder of the lock of the types alone may change: the tags, the keys and the global sequence
+abbrev pub copied_keys : (ℕ → ℕ → ℕ) → ℕ → List ℕ
+copied_keys keys_are c = listed keys (keys_are c)
 
--- The copies of the holder of a row are the head and the inline values.
-pub record RowCopied (words : Words) (o : ℕ) (v : RowCopy) : Type 0 where
-  pub head : v.head ≡ words (head o)
-  pub values : v.words ≡ listed inline_values (λ i. words (inline_value o i))
+abbrev pub types_copied : (ℕ → ℕ) → (ℕ → ℕ → ℕ) → ℕ → TypesWords
+types_copied tags keys_are global = record { tags = listed classes tags; keys = listed classes (copied_keys keys_are); global = global }
 
--- the holder of a lock has a copy of each word that it alone may change
-pub record CopyRule (words : Words) (types : List TypesCopy) (rows : ℕ → List RowCopy) : Type 0 where
-  pub types_are : Each (λ i v. v.held ≡ true → TypesCopied words v) types
-  pub rows_are : (o : ℕ) → Each (λ i v. v.held ≡ true → RowCopied words o v) (rows o)
+-- those that the holder of a row alone may change: the head and the inline values of its object
+abbrev pub row_copied : ℕ → (ℕ → ℕ) → RowWords
+row_copied head_is values = record { head = head_is; values = listed inline_values values }
+
+-- The holder of the lock of the types has its lists, and a copy of each word that it alone may change.
+pub record TypesCopied (lists : TypeLists) (words : TypesWords) (v : TypesRead) : Type 0 where
+  pub lists_are : v.lists ≡ lists
+  pub words_are : v.words ≡ words
+
+abbrev pub TypesRule : TypeLists → TypesWords → List TypesRead → Type 0
+TypesRule lists words views = Each (λ i v. v.held ≡ true → TypesCopied lists words v) views
+
+-- so has the holder of a row
+abbrev pub RowRule : RowWords → List RowRead → Type 0
+RowRule words views = Each (λ i v. v.held ≡ true → v.words ≡ words) views
 
 -- what two passes had seen when they were joined begins the history
 abbrev pub JoinRule : List op.Op → List JoinView → Type 0
@@ -179,6 +190,10 @@ JoinRule history views = Each (λ i v. IsPrefix v.first history × IsPrefix v.se
 -- a live view has the limits of the table
 abbrev pub LimitRule : Limits → List LimitRead → Type 0
 LimitRule limits views = Each (λ i v. v.live ≡ true → v.limits ≡ limits) views
+
+-- a view that isn't live is spent
+abbrev pub SpentRule : List View → Type 0
+SpentRule views = Each (λ i v. v.who.live ≡ false → v ≡ blank) views
 
 -- The whole
 
@@ -191,18 +206,34 @@ pub record Ghost : Type 0 where
 abbrev pub words_of : List ℕ → Words
 words_of words a = if is_there a then slice_index_or words (number_of a) 0 else 0
 
-abbrev pub shapes_of : Words → ℕ → Shape
-shapes_of words o = shape_of (words (head o))
+abbrev pub heads_of : Words → ℕ → ℕ
+heads_of words o = words (head o)
+
+abbrev pub types_words : Words → TypesWords
+types_words words = types_copied (λ c. words (tag c)) (λ c i. words (key c i)) (words global_sequence)
+
+abbrev pub row_words : Words → ℕ → RowWords
+row_words words o = row_copied (words (head o)) (λ i. words (inline_value o i))
 
 pub record Parts (opened : World) (limits : Limits) (words : Words) (homes : Homes) (views : List View) (g : Ghost) : Type 0 where
-  pub past : PastRule opened limits.place_max (words place) g.lists.next_birth g.history (map past_read views) (map kin_read views)
-  pub holders : HolderRule words g.lists.numbers (λ l. map (holder_read l) views) (map number_read views)
-  pub slots : SlotRule opened words (shapes_of words) homes g.history g.lists
-  pub kept : KeptRule opened g.history (λ l. map (kept_read l) views)
-  pub lists : ListsRule g.lists (map lists_read views)
-  pub copies : CopyRule words (map types_copy views) (λ o. map (row_copy o) views)
+  -- base 1
+  pub history : HistoryRule opened (words place) g.history (map past_read views)
+  pub room : RoomRule limits.place_max (words place) (map fresh_read views)
+  pub kin : KinRule g.lists.next_birth (map kin_read views)
+  -- base 2
+  pub locks : (l : lock.Lock) → LockRule (words (lock_word l)) (map (holder_read l) views)
+  pub numbers : NumberRule g.lists.numbers (map number_read views)
+  -- base 3
+  pub slots : (l : lock.Lock) → IsLock l → SlotRule limits (replay opened g.history) g.lists (shape_under (heads_of words) l) l (words (lock_word l)) (get_elem? homes (slot_of l))
+  pub rows_are : RowsAre (heads_of words)
+  -- base 4
+  pub kept : (l : lock.Lock) → KeptRule opened l g.history (map (kept_read l) views)
+  -- what the views have beside that
+  pub types : TypesRule g.lists (types_words words) (map types_read views)
+  pub rows : (o : ℕ) → RowRule (row_words words o) (map (row_read o) views)
   pub joins : JoinRule g.history (map join_read views)
   pub limited : LimitRule limits (map limit_read views)
+  pub spent : SpentRule views
 
 -- the rule, with what exists in proofs alone
 pub record Holds (opened : World) (limits : Limits) (s : Board) (g : Ghost) : Type 0 where

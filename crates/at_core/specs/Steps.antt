@@ -1,32 +1,34 @@
 -- The steps of the core: what each asks of the pass that makes it, and what it makes of the view of that pass. Each leaves
 -- its mark in the trace. What a step finds and what it does to words and slots stands with the runs.
 use Rattle.std.specs.Prelude.{ℕ, suc, ◌≡◌, ◌<◌, nat_lt, ◌==◌, Bool, true, false, List, [], ◌∷◌, ◌++◌, length, Option, Some, None, slice_set, position, unwrap_or, if◌then◌else◌}
-use Rattle.at_value.specs.Widths.{classes}
 use Rattle.at_value.specs.declared.operation.Op as op
 use Rattle.at_model.specs.World.{World}
 use Rattle.at_model.specs.History.{replay}
-use Rattle.at_dict.specs.Dictionary.{Dictionary}
 use Rattle.at_types.specs.Tags.{times}
 use Rattle.at_view.specs.declared.mark.Mark.{Mark}
 use Rattle.at_view.specs.declared.mark.StepKind as step_kind
 use Rattle.at_view.specs.declared.mark.StepKind.TheVariants as kinds
+use Rattle.at_view.specs.declared.view.ClassKeys.{ClassKeys}
+use Rattle.at_view.specs.declared.view.Hold.{Hold}
+use Rattle.at_view.specs.declared.view.RowCopy.{RowCopy}
+use Rattle.at_view.specs.declared.view.RowHold.{RowHold}
+use Rattle.at_view.specs.declared.view.ScanView.{ScanView}
 use Rattle.at_view.specs.declared.view.TypeLists.{TypeLists}
+use Rattle.at_view.specs.declared.view.TypesView.{TypesView}
 use Rattle.at_view.specs.declared.view.View.{View}
-use Rattle.at_view.specs.Counts.{keys, inline_values}
 use Rattle.at_view.specs.Views.{blank}
-use Rattle.at_view.specs.Words.{Word, Words, number_of, place, tag, key, global_sequence, head, inline_value}
+use Rattle.at_view.specs.Words.{Word, Words, number_of, place, head, key}
 use Rattle.at_core.specs.declared.lock.Lock as lock
 use Rattle.at_core.specs.declared.lock.Lock.TheVariants as locks
 use Rattle.at_core.specs.declared.stored.Stored.{Stored}
-use Rattle.at_core.specs.declared.stored.Stored.TheVariants as stored
-use Rattle.at_core.specs.Heads.{shape_of}
-use Rattle.at_core.specs.Locks.{lock_word, holds, row_at}
-use Rattle.at_core.specs.Rule.{listed, TypesAgree, BodyAgrees}
+use Rattle.at_core.specs.Heads.{class_of}
+use Rattle.at_core.specs.Locks.{lock_word, hold_at, hold_of, holds, copy_at}
+use Rattle.at_core.specs.Rule.{Agrees, shape_under, copied_keys, types_words, row_words}
 
 -- Marks
 
 abbrev pub mark : step_kind.StepKind → Word → Option ℕ → Option ℕ → Mark
-mark kind word found left = record { kind = kind; word = number_of word; found = found; left = left }
+mark kind word found left = record { kind = kind; word = number_of word; found = found; left = left; free = None }
 
 abbrev pub marked : View → Mark → View
 marked v m = record v { trace = v.trace ++ m ∷ [] }
@@ -37,37 +39,49 @@ pub record Moment : Type 0 where
   pub lists : TypeLists
   pub words : Words
 
-abbrev pub has_seen : View → List op.Op → View
-has_seen v history = record v { history = record v.history { seen = history } }
-
 -- Taking a lock: asked is that the pass doesn't hold it
 
 abbrev pub MayTake : lock.Lock → View → Type 0
 MayTake l v = holds l v ≡ false
 
+-- the lock is held from this moment on
+abbrev pub hold_from : Moment → Hold
+hold_from at = record { held = true; since = at.history; entered = length at.history }
+
+abbrev pub types_taken : lock.Lock → Moment → TypesView → TypesView
+types_taken locks.Types at types = record { hold = hold_from at; lists = at.lists; words = types_words at.words }
+types_taken (locks.Row o) at types = types
+
+abbrev pub holds_taken : lock.Lock → Moment → List RowHold → List RowHold
+holds_taken locks.Types at rows = rows
+holds_taken (locks.Row o) at rows = (record { object = o; hold = hold_from at }) ∷ rows
+
+abbrev pub rows_taken : lock.Lock → Moment → List RowCopy → List RowCopy
+rows_taken locks.Types at rows = rows
+rows_taken (locks.Row o) at rows = (record { object = o; words = row_words at.words o }) ∷ rows
+
+-- the keys of a class as they are
+abbrev pub keys_of_class : Words → ℕ → ClassKeys
+keys_of_class words c = record { class = c; keys = copied_keys (λ d i. words (key d i)) c }
+
+abbrev pub known_taken : lock.Lock → Moment → List ClassKeys → List ClassKeys
+known_taken locks.Types at known = known
+known_taken (locks.Row o) at known = keys_of_class at.words (class_of (at.words (head o))) ∷ known
+
+abbrev pub scan_taken : lock.Lock → ScanView → ScanView
+scan_taken locks.Types scan = blank.scan
+scan_taken (locks.Row o) scan = scan
+
 -- The pass has the lock, has seen the history up to now, and has copies of the words that it alone may change from now on.
+-- With a row it knows the keys of the class that the head names.
 abbrev pub holding : lock.Lock → View → Moment → View
-holding locks.Types v at = record (has_seen v at.history) {
-  types = record {
-    held = true;
-    since = at.history;
-    entered = length at.history;
-    lists = at.lists;
-    tags = listed classes (λ c. at.words (tag c));
-    keys = listed classes (λ c. listed keys (λ i. at.words (key c i)));
-    global = at.words global_sequence;
-  };
-  scan = blank.scan;
-}
-holding (locks.Row o) v at = record (has_seen v at.history) {
-  rows = record {
-    object = o;
-    held = true;
-    since = at.history;
-    entered = length at.history;
-    head = at.words (head o);
-    words = listed inline_values (λ i. at.words (inline_value o i));
-  } ∷ v.rows;
+holding l v at = record v {
+  history = record v.history { seen = at.history };
+  types = types_taken l at v.types;
+  holds = holds_taken l at v.holds;
+  rows = rows_taken l at v.rows;
+  known = known_taken l at v.known;
+  scan = scan_taken l v.scan;
 }
 
 abbrev pub taken : lock.Lock → View → Moment → View
@@ -79,29 +93,48 @@ missed l v found = marked v (mark kinds.LockTake (lock_word l) (Some found) (Som
 
 -- Giving a lock back: asked is that the pass holds it, and that its slot has a value that agrees with what the lock kept
 
--- The value in the slot of a lock that the view holds is right: the types stand for the world at the pass's last look, with
--- its lists; the dictionary of a row is that world's, or empty, by its copy of the head.
-abbrev pub ValueAgrees : World → lock.Lock → View → Stored → Type 0
-ValueAgrees opened locks.Types v x = (t : _) × (x ≡ stored.Types t) × TypesAgree t.value (replay opened v.types.since) v.types.lists
-ValueAgrees opened (locks.Row o) v x =
-    (body : Dictionary) × (x ≡ stored.Body body) × BodyAgrees (shape_of (row_at o v.rows).head) (replay opened (row_at o v.rows).since) o body
+-- what the copies of heads are
+abbrev pub copied_heads : View → ℕ → ℕ
+copied_heads v o = (copy_at o v.rows).head
 
-pub record MayGive (opened : World) (l : lock.Lock) (v : View) (x : Stored) : Type 0 where
+-- The value in the slot of a lock that the view holds is right: it agrees with the history that the lock has kept, with these
+-- lists, and with the view's copy of the head.
+abbrev pub ValueAgrees : World → lock.Lock → View → TypeLists → Stored → Type 0
+ValueAgrees opened l v lists x = Agrees v.who.limits (replay opened (hold_of l v).since) lists (shape_under (copied_heads v) l) l x
+
+-- the lists that go back with the types are those of the view
+abbrev pub Returns : TypeLists → TypeLists → Type 0
+Returns lists back = back ≡ lists
+
+pub record MayGive (opened : World) (l : lock.Lock) (v : View) (back : TypeLists) (x : Stored) : Type 0 where
   pub held : holds l v ≡ true
-  pub agrees : ValueAgrees opened l v x
+  pub returns : Returns v.types.lists back
+  pub agrees : ValueAgrees opened l v back x
 
-abbrev pub without_lock : lock.Lock → View → View
-without_lock locks.Types v = record v { types = record v.types { held = false } }
-without_lock (locks.Row o) v = record v { rows = record (row_at o v.rows) { object = o; held = false } ∷ v.rows }
+abbrev pub let_go : Hold → Hold
+let_go hold = record hold { held = false }
+
+abbrev pub types_given : lock.Lock → TypesView → TypesView
+types_given locks.Types types = record types { hold = let_go types.hold }
+types_given (locks.Row o) types = types
+
+abbrev pub holds_given : lock.Lock → List RowHold → List RowHold
+holds_given locks.Types rows = rows
+holds_given (locks.Row o) rows = (record { object = o; hold = let_go (hold_at o rows) }) ∷ rows
 
 abbrev pub given : lock.Lock → View → View
-given l v = marked (without_lock l v) (mark kinds.LockGive (lock_word l) None (Some 0))
+given l v = marked (record v { types = types_given l v.types; holds = holds_given l v.holds }) (mark kinds.LockGive (lock_word l) None (Some 0))
+
+-- the lists once a lock is given back: those that go back with the types
+abbrev pub lists_given : lock.Lock → TypeLists → TypeLists → TypeLists
+lists_given locks.Types back lists = back
+lists_given (locks.Row o) back lists = lists
 
 -- Splitting a pass off: asked is that the pass holds the lock of the types and no other, and that a number is free
 
 -- the pass holds the lock of the types and no row
 pub record HoldsTypesAlone (v : View) : Type 0 where
-  pub types : v.types.held ≡ true
+  pub types : holds locks.Types v ≡ true
   pub rows : (o : ℕ) → holds (locks.Row o) v ≡ false
 
 -- the least free number, where there is one
@@ -145,7 +178,7 @@ pub record MayJoin (v other : View) : Type 0 where
 -- without the number, where it first stands
 abbrev pub without : ℕ → List ℕ → List ℕ
 without n [] = []
-without n (m ∷ ms) = if n == m then ms else m ∷ without n ms
+without n (m ∷ ms) = if m == n then ms else m ∷ without n ms
 
 -- the longer of two prefixes of the history
 abbrev pub longer : List op.Op → List op.Op → List op.Op

@@ -1,6 +1,9 @@
 -- The view of a pass that has done nothing, from which each other view is made.
-use Rattle.std.specs.Prelude.{true, false, [], replicate}
+use Rattle.std.specs.Prelude.{ℕ, true, false, [], replicate}
 use Rattle.at_value.specs.declared.limits.Limits.{Limits}
+use Rattle.at_view.specs.declared.view.Hold.{Hold}
+use Rattle.at_view.specs.declared.view.TypesWords.{TypesWords}
+use Rattle.at_view.specs.declared.view.RowWords.{RowWords}
 use Rattle.at_view.specs.declared.view.TypeLists.{TypeLists}
 use Rattle.at_view.specs.declared.view.View.{View}
 use Rattle.at_view.specs.Counts.{intent_words}
@@ -8,8 +11,17 @@ use Rattle.at_view.specs.Counts.{intent_words}
 abbrev pub no_limits : Limits
 no_limits = record { place_max = 0; head_max = 0; tags = 0 }
 
+abbrev pub no_hold : Hold
+no_hold = record { held = false; since = []; entered = 0 }
+
 abbrev pub no_lists : TypeLists
 no_lists = record { numbers = []; next_birth = 0; pool = []; limbo = [] }
+
+abbrev pub no_types_words : TypesWords
+no_types_words = record { tags = []; keys = []; global = 0 }
+
+abbrev pub no_row_words : RowWords
+no_row_words = record { head = 0; values = [] }
 
 -- the view that is spent: it isn't live, and knows nothing
 abbrev pub blank : View
@@ -18,7 +30,8 @@ blank = record {
   history = record { birth = 0; seen = []; own = [] };
   joined = record { first = []; second = [] };
   intent = record { words = replicate intent_words 0; fresh = false };
-  types = record { held = false; since = []; entered = 0; lists = no_lists; tags = []; keys = []; global = 0 };
+  types = record { hold = no_hold; lists = no_lists; words = no_types_words };
+  holds = [];
   rows = [];
   known = [];
   looks = [];
@@ -30,6 +43,9 @@ blank = record {
   kept = [];
 }
 
--- the view of the first pass of a table with these limits
+-- the view of the first pass of a table with these limits, which is online
 abbrev pub first_view : Limits → View
-first_view limits = record blank { who = record { live = true; number = 0; limits = limits; children = [] } }
+first_view limits = record blank {
+  who = record { live = true; number = 0; limits = limits; children = [] };
+  tags = record { online = true; global = 0; held = [] };
+}

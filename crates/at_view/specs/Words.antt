@@ -130,7 +130,7 @@ second_index (head o) = 0
 second_index (inline_value o i) = i
 
 abbrev pub is_same : Word → Word → Bool
-is_same a b = (family a == family b) && (first_index a == first_index b) && (second_index a == second_index b)
+is_same a b = (family a == family b) && (second_index a == second_index b) && (first_index a == first_index b)
 
 -- What the words say
 

@@ -76,6 +76,8 @@ pub struct Mark {
     pub found: Option<u64>,
     /// What the step left there: none for a split and a join, which change no word.
     pub left: Option<u64>,
+    /// For the load of a tag under the lock of the types: how many tags were free then.
+    pub free: Option<u64>,
 }
 
 /// The whole trace of a pass that was taken in by another.

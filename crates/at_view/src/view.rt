@@ -11,7 +11,7 @@ use std::collections::LinkedList;
 /// What one pass has seen of the history, and which writes are its own: the part of a pass's view over which whole
 /// events are said.
 pub struct HistoryView {
-    /// The birth number, which no other view has, not even a spent one.
+    /// The birth number, which no other pass has, not even one that was taken in.
     pub birth: u64,
     /// The prefix of the history that it has seen, the first write first.
     pub seen: LinkedList<Op>,
@@ -62,31 +62,47 @@ pub struct TypeLists {
     pub limbo: LinkedList<LimboTag>,
 }
 
-/// The lock of the types, and what its holder has in place of the value that it may have out.
-pub struct TypesView {
-    pub held: bool,
-    /// The history when it took the lock, or at its last write since: the classes are still those.
-    pub since: LinkedList<Op>,
-    /// How many writes it had seen when it took the lock.
-    pub entered: u64,
-    pub lists: TypeLists,
-    /// Copies of the tag of each class, of the keys of each class, and of the global sequence.
+/// The words that the holder of the lock of the types alone may change: the tag of each class, the keys of each class,
+/// and the global sequence.
+pub struct TypesWords {
     pub tags: LinkedList<u64>,
     pub keys: LinkedList<LinkedList<u64>>,
     pub global: u64,
 }
 
-/// The lock of a row: that of an object and of the dictionary that was born with it.
-pub struct RowView {
-    pub object: u64,
+/// The words that the holder of a row alone may change: the head and the inline values of its object.
+pub struct RowWords {
+    pub head: u64,
+    pub values: LinkedList<u64>,
+}
+
+/// What a pass knows of a lock.
+pub struct Hold {
     pub held: bool,
-    /// The history when it took the lock, or at its last write since: object and dictionary are still those.
+    /// The history when it took the lock, or at its last write since: what the lock protects is still as it was then.
     pub since: LinkedList<Op>,
     /// How many writes it had seen when it took the lock.
     pub entered: u64,
-    /// Copies of the head and of the inline values.
-    pub head: u64,
-    pub words: LinkedList<u64>,
+}
+
+/// The lock of the types, and what its holder has in place of the value that it may have out.
+pub struct TypesView {
+    pub hold: Hold,
+    pub lists: TypeLists,
+    /// Copies.
+    pub words: TypesWords,
+}
+
+/// The lock of a row: that of an object and of the dictionary that was born with it.
+pub struct RowHold {
+    pub object: u64,
+    pub hold: Hold,
+}
+
+/// Copies of the words of a row.
+pub struct RowCopy {
+    pub object: u64,
+    pub words: RowWords,
 }
 
 /// The keys that a class is known to have; it may have more.
@@ -181,8 +197,9 @@ pub struct View {
     pub joined: JoinView,
     pub intent: IntentView,
     pub types: TypesView,
-    /// The first entry of an object counts.
-    pub rows: LinkedList<RowView>,
+    /// The locks of rows, and the copies of their words. The first entry of an object counts.
+    pub holds: LinkedList<RowHold>,
+    pub rows: LinkedList<RowCopy>,
     /// The first entry of a class counts.
     pub known: LinkedList<ClassKeys>,
     /// The last head loaded first.
