@@ -4,3 +4,4 @@ pub mod WordLemmas
 pub mod LockLemmas
 pub mod Parts
 pub mod Taking
+pub mod Giving
