@@ -5,3 +5,6 @@ pub mod LockLemmas
 pub mod Parts
 pub mod Taking
 pub mod Giving
+pub mod Counts
+pub mod Splitting
+pub mod Joining
