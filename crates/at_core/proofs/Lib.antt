@@ -8,3 +8,7 @@ pub mod Giving
 pub mod Counts
 pub mod Splitting
 pub mod Joining
+pub mod Opening
+pub mod Hands
+pub mod Moves
+pub mod AllRuns
