@@ -1,7 +1,7 @@
 -- The rule holds after each step of each run.
-use Rattle.std.proofs.Common.{◌≡◌, ◌≢◌, ◌⊎◌, ℕ, suc, true, false, Bool, List, [], ◌∷◌, ◌++◌, length, set, refl, sym, ap, ◌∙◌, subst, ⊎_elim, length-set}
+use Rattle.std.proofs.Common.{◌≡◌, ◌≢◌, ℕ, false, List, [], ◌∷◌, length, set, refl, sym, ap, ◌∙◌, subst, ⊎_elim, length-set}
 use Rattle.std.specs.Prelude.{Some, None, is_some}
-use mathlib.Core.Option.{some, none}
+use mathlib.Core.Option.{some}
 use lib.ListN.{get_elem?}
 use Rattle.at_value.specs.declared.limits.Limits.{Limits}
 use Rattle.at_model.specs.World.{World}
@@ -9,12 +9,12 @@ use Rattle.at_view.specs.declared.view.View.{View}
 use Rattle.at_view.specs.Views.{blank}
 use Rattle.at_core.specs.declared.lock.Lock as lock
 use Rattle.at_core.specs.declared.lock.Lock.TheVariants as locks
-use Rattle.at_core.specs.Locks.{slot_of, hold_of, holds}
-use Rattle.at_core.specs.Rule.{Slot, IsLock}
-use Rattle.at_core.specs.Steps.{Moment, mark, marked, taken, missed, given, parted, child, merged}
+use Rattle.at_core.specs.Locks.{slot_of, holds}
+use Rattle.at_core.specs.Rule.{Slot}
+use Rattle.at_core.specs.Steps.{taken, missed, given, parted, child, merged}
 use Rattle.at_core.specs.Runs.{Core, Event, lock_take, lock_miss, lock_give, slot_out, slot_in, split, join, moment_of, without_hand, Takes, Misses, Gives, Exchanges, Splits, Joins, Goes, CoreHolds, EveryRunHolds}
-use Rattle.at_core.proofs.Lists.{each_set, each_other, there}
-use Rattle.at_core.proofs.LockLemmas.{hold_marked, hold_taken, hold_beside, hold_given, hold_kept}
+use Rattle.at_core.proofs.Lists.{each_set}
+use Rattle.at_core.proofs.LockLemmas.{hold_taken, hold_beside, hold_given, hold_kept}
 use Rattle.at_core.proofs.Hands.{hands_changed, hands_exchanged, at_end, without_here, without_else}
 use Rattle.at_core.proofs.Moves.{take_moves, miss_moves, give_moves, split_moves, join_moves}
 

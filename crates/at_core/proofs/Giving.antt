@@ -1,12 +1,11 @@
 -- A lock is given back.
-use Rattle.std.proofs.Common.{◌≡◌, ◌≢◌, ◌⊎◌, ℕ, zero, suc, ◌+◌, ◌<◌, ◌≤◌, Bool, true, false, true≢false, List, [], ◌∷◌, length, map, set, get_or, refl, sym, ap, ◌∙◌, subst, ⊎_elim, arith, length-set}
+use Rattle.std.proofs.Common.{◌≡◌, ◌≢◌, ℕ, zero, suc, ◌<◌, true, false, true≢false, List, [], ◌∷◌, length, map, set, get_or, refl, sym, ap, ◌∙◌, subst, ⊎_elim, arith}
 use Rattle.std.specs.Prelude.{Some, None, Option, slice_get}
-use mathlib.Core.Option.{some, none}
-use mathlib.Core.List.{IsPrefix}
+use mathlib.Core.Option.{some}
 use lib.ListN.{get_elem?}
 use Rattle.atomic_table.proofs.Lists.{at_map, set_here, set_else}
 use Rattle.at_value.specs.declared.limits.Limits.{Limits}
-use Rattle.at_model.specs.World.{World, Map}
+use Rattle.at_model.specs.World.{World}
 use Rattle.at_model.specs.History.{replay}
 use Rattle.at_view.specs.declared.view.TypeLists.{TypeLists}
 use Rattle.at_view.specs.declared.view.View.{View}
@@ -16,8 +15,8 @@ use Rattle.at_core.specs.declared.lock.Lock.TheVariants as locks
 use Rattle.at_core.specs.declared.stored.Stored.{Stored}
 use Rattle.at_core.specs.Heads.{Shape, shape_of}
 use Rattle.at_core.specs.Locks.{lock_word, slot_of, hold_of, holds, copy_at, IsUnchanged}
-use Rattle.at_core.specs.Reads.{past_read, fresh_read, kin_read, number_read, holder_read, KeptRead, kept_read, TypesRead, types_read, RowRead, row_read, join_read, limit_read}
-use Rattle.at_core.specs.Rule.{Slot, Homes, HistoryRule, RoomRule, KinRule, LockRule, NumberRule, SlotRule, KeptBy, KeptRule, TypesCopied, TypesRule, RowRule, JoinRule, LimitRule, Ghost, Parts, IsLock, RowsAre, Agrees, heads_of, types_words, row_words, shape_under}
+use Rattle.at_core.specs.Reads.{past_read, fresh_read, kin_read, number_read, holder_read, kept_read, types_read, row_read, join_read, limit_read}
+use Rattle.at_core.specs.Rule.{Homes, HistoryRule, RoomRule, KinRule, LockRule, NumberRule, SlotRule, KeptBy, KeptRule, TypesCopied, TypesRule, RowRule, JoinRule, LimitRule, Ghost, Parts, IsLock, RowsAre, Agrees, heads_of, types_words, row_words, shape_under}
 use Rattle.at_core.specs.Steps.{MayGive, given, lists_given, copied_heads}
 use Rattle.at_core.proofs.Lists.{each_set}
 use Rattle.at_core.proofs.Prefixes.{prefix_self, prefix_trans}

@@ -1,13 +1,12 @@
 -- A pass takes in another.
 use Rattle.std.proofs.Common.{◌≡◌, ◌≢◌, ◌⊎◌, ℕ, zero, suc, ◌+◌, ◌*◌, ◌<◌, ◌≤◌, ◌==◌, ◌&&◌, Bool, true, false, true≢false, cond, List, [], ◌∷◌, ◌++◌, length, map, set, get_or, refl, sym, ap, ◌∙◌, subst, ⊎_elim, inl, inr, arith, length-set}
-use Rattle.std.specs.Prelude.{Some, None, count_by, sum_by, nat_lt}
-use Rattle.std.proofs.lemmas.List.Sums.{sum_by-append}
-use mathlib.Core.Option.{some, none, some-injective}
+use Rattle.std.specs.Prelude.{count_by, sum_by, nat_lt}
+use mathlib.Core.Option.{some, some-injective}
 use mathlib.Core.List.{IsPrefix}
 use mathlib.Core.Logic.{dite}
 use native.Mathlib.Decide.{ℕ_discrete}
 use lib.ListN.{get_elem?}
-use Rattle.atomic_table.proofs.Lists.{at_map, at_set, set_here, set_else}
+use Rattle.atomic_table.proofs.Lists.{at_map, set_here, set_else}
 use Rattle.at_value.specs.declared.limits.Limits.{Limits}
 use Rattle.at_value.specs.declared.operation.Op as op
 use Rattle.at_model.specs.World.{World}
@@ -16,17 +15,17 @@ use Rattle.at_types.specs.Tags.{times}
 use Rattle.at_view.specs.declared.mark.Trail.{Trail}
 use Rattle.at_view.specs.declared.view.TypeLists.{TypeLists}
 use Rattle.at_view.specs.declared.view.View.{View}
-use Rattle.at_view.specs.Views.{blank, no_hold}
+use Rattle.at_view.specs.Views.{blank, no_hold, longer}
 use Rattle.at_view.specs.Counts.{passes}
 use Rattle.at_view.specs.Words.{Words, place}
 use Rattle.at_core.specs.declared.lock.Lock as lock
 use Rattle.at_core.specs.declared.lock.Lock.TheVariants as locks
-use Rattle.at_core.specs.Locks.{lock_word, slot_of, hold_of, holds, Excludes, AvoidsRow}
-use Rattle.at_core.specs.Reads.{PastRead, past_read, fresh_read, KinRead, kin_read, births_of, NumberRead, number_read, HolderRead, holder_read, KeptRead, kept_read, TypesRead, types_read, RowRead, row_read, join_read, LimitRead, limit_read}
-use Rattle.at_core.specs.Rule.{Homes, Each, weight, is_born, has_number, HistoryRule, RoomRule, KinRule, LockRule, NumberRule, SlotRule, KeptBy, KeptRule, TypesCopied, TypesRule, RowRule, JoinRule, LimitRule, SpentRule, Ghost, Parts, IsLock, heads_of, types_words, row_words, shape_under}
-use Rattle.at_core.specs.Steps.{MayJoin, lists_joined, merged, longer, without}
-use Rattle.at_core.proofs.Lists.{each_set, each_other, there, got, sum_set, sum_has, map_set, map_back}
-use Rattle.at_core.proofs.Counts.{weight_same, weight_some, weight_other, times_cons, times_append, times_without, weight_set, count_set_free}
+use Rattle.at_core.specs.Locks.{lock_word, slot_of, hold_of}
+use Rattle.at_core.specs.Reads.{PastRead, past_read, fresh_read, KinRead, kin_read, births_of, NumberRead, number_read, HolderRead, holder_read, kept_read, TypesRead, types_read, row_read, join_read, limit_read}
+use Rattle.at_core.specs.Rule.{Homes, Each, weight, is_born, has_number, HistoryRule, KinRule, LockRule, NumberRule, SlotRule, KeptBy, TypesCopied, TypesRule, Ghost, Parts, IsLock, heads_of, types_words, row_words, shape_under}
+use Rattle.at_core.specs.Steps.{MayJoin, lists_joined, merged, without}
+use Rattle.at_core.proofs.Lists.{each_set, each_other, there, sum_set, sum_has, map_set, map_back}
+use Rattle.at_core.proofs.Counts.{weight_same, weight_other, times_cons, times_append, times_without, weight_set, count_set_free}
 use Rattle.at_core.proofs.Prefixes.{prefix_self, prefix_trans, prefix_length, prefix_shorter}
 use Rattle.at_core.proofs.Parts.{seen_begins, holder_is}
 

@@ -1,21 +1,19 @@
 -- Locks that are one and locks that differ.
-use Rattle.std.proofs.Common.{◌≡◌, ◌≢◌, ◌⊎◌, ℕ, zero, suc, ◌+◌, ◌<◌, ◌==◌, Bool, true, false, true≢false, List, [], ◌∷◌, eqb, eq-eqb, ne_eqb, refl, sym, ap, ◌∙◌, subst, inl, inr, arith}
+use Rattle.std.proofs.Common.{◌≡◌, ◌≢◌, ◌⊎◌, ℕ, Bool, false, List, ◌∷◌, eq-eqb, ne_eqb, refl, ap, inl, inr, arith}
 use Rattle.std.specs.Prelude.{if◌then◌else◌}
 use mathlib.Core.Logic.{dite}
 use native.Mathlib.Decide.{ℕ_discrete}
 use Rattle.at_view.specs.declared.mark.Mark.{Mark}
-use Rattle.at_view.specs.declared.view.Hold.{Hold}
 use Rattle.at_view.specs.declared.view.RowHold.{RowHold}
 use Rattle.at_view.specs.declared.view.RowCopy.{RowCopy}
-use Rattle.at_view.specs.declared.view.RowWords.{RowWords}
 use Rattle.at_view.specs.declared.view.View.{View}
-use Rattle.at_view.specs.Words.{Words, Word, updated, is_same, place, head, tag, key, inline_value, global_sequence, type_lock, row_lock}
+use Rattle.at_view.specs.Words.{Words, updated, is_same, place}
 use Rattle.at_core.specs.declared.lock.Lock as lock
 use Rattle.at_core.specs.declared.lock.Lock.TheVariants as locks
-use Rattle.at_core.specs.Locks.{lock_word, slot_of, hold_at, hold_of, holds, copy_at}
-use Rattle.at_core.specs.Rule.{heads_of, types_words, row_words, shape_under}
+use Rattle.at_core.specs.Locks.{lock_word, slot_of, hold_at, hold_of, copy_at}
+use Rattle.at_core.specs.Rule.{heads_of, types_words, row_words}
 use Rattle.at_core.specs.Steps.{Moment, marked, hold_from, taken, let_go, given}
-use Rattle.at_core.proofs.WordLemmas.{updated_here, updated_else}
+use Rattle.at_core.proofs.WordLemmas.{updated_else}
 
 pub slot_one : (l k : lock.Lock) → slot_of l ≡ slot_of k → l ≡ k
 slot_one locks.Types locks.Types e = refl

@@ -1,21 +1,21 @@
 -- The rule over the table, after each step.
-use Rattle.std.proofs.Common.{◌≡◌, ◌≢◌, ℕ, suc, ◌+◌, ◌<◌, ◌≤◌, Bool, true, false, List, [], ◌∷◌, ◌++◌, length, set, get_or, refl, sym, ap, ◌∙◌, subst, arith, length-set}
-use Rattle.std.specs.Prelude.{Some, None}
+use Rattle.std.proofs.Common.{◌≡◌, ◌≢◌, ℕ, suc, ◌<◌, true, List, [], ◌∷◌, ◌++◌, length, set, sym, ap, ◌∙◌, subst, arith, length-set}
+use Rattle.std.specs.Prelude.{Some}
 use mathlib.Core.Option.{some, none}
 use lib.ListN.{get_elem?}
-use Rattle.atomic_table.specs.Table.{Act, keeps, takes, gives, stepped}
+use Rattle.atomic_table.specs.Table.{keeps, takes, gives, stepped}
 use Rattle.at_value.specs.Widths.{objects}
 use Rattle.at_value.specs.declared.limits.Limits.{Limits}
 use Rattle.at_model.specs.World.{World}
 use Rattle.at_view.specs.declared.view.TypeLists.{TypeLists}
 use Rattle.at_view.specs.declared.view.View.{View}
 use Rattle.at_view.specs.Views.{blank}
-use Rattle.at_view.specs.Words.{Words, updated, number_of}
+use Rattle.at_view.specs.Words.{Words, number_of}
 use Rattle.at_core.specs.declared.lock.Lock as lock
 use Rattle.at_core.specs.declared.lock.Lock.TheVariants as locks
 use Rattle.at_core.specs.declared.stored.Stored.{Stored}
 use Rattle.at_core.specs.Locks.{lock_word, slot_of}
-use Rattle.at_core.specs.Rule.{Slot, Homes, Board, Ghost, Parts, Holds, IsLock, words_of}
+use Rattle.at_core.specs.Rule.{Slot, Board, Ghost, Parts, Holds, IsLock, words_of}
 use Rattle.at_core.specs.Steps.{Moment, taken, missed, MayGive, given, lists_given, MaySplit, lists_parted, parted, child, MayJoin, lists_joined, merged}
 use Rattle.at_core.specs.Runs.{with_views}
 use Rattle.at_core.proofs.WordLemmas.{stored, said, reloaded}

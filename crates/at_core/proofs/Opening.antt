@@ -1,30 +1,26 @@
 -- The opening state.
-use Rattle.std.proofs.Common.{◌≡◌, ◌≢◌, ◌⊎◌, ℕ, zero, suc, ◌+◌, ◌-◌, ◌*◌, ◌<◌, ◌≤◌, ◌^◌, ◌==◌, ◌&&◌, Bool, true, false, true≢false, IsTrue, List, [], ◌∷◌, ◌++◌, length, map, set, get_or, replicate, refl, sym, ap, ◌∙◌, subst, inl, inr, arith}
-use Rattle.std.specs.Prelude.{Some, None, Option, is_some, sum_by, count_by, nat_lt, if◌then◌else◌}
+use Rattle.std.proofs.Common.{◌≡◌, ℕ, zero, suc, ◌+◌, ◌-◌, ◌<◌, ◌≤◌, ◌==◌, ◌&&◌, Bool, true, false, true≢false, List, [], ◌∷◌, length, map, get_or, replicate, refl, sym, ap, ◌∙◌, subst, arith}
+use Rattle.std.specs.Prelude.{Some, count_by, nat_lt, if◌then◌else◌}
 use Rattle.std.proofs.lemmas.Bool.Decides.{nat_tests}
 use Rattle.std.proofs.lemmas.List.{length-replicate, length-map}
 use Rattle.std.proofs.lemmas.List.Sums.{sum_by-cons}
 use mathlib.Core.Option.{some}
-use mathlib.Core.Option as maybe
 use lib.ListN.{get_elem?}
-use Rattle.atomic_table.specs.Table.{opening}
 use Rattle.atomic_table.proofs.Lists.{at_map}
-use Rattle.at_value.specs.Widths.{objects}
 use Rattle.at_value.specs.declared.limits.Limits.{Limits}
 use Rattle.at_model.specs.World.{World}
 use Rattle.at_view.specs.declared.view.View.{View}
 use Rattle.at_view.specs.Counts.{passes}
 use Rattle.at_view.specs.Views.{first_view}
-use Rattle.at_view.specs.Words.{Word, number_of, is_there, table_words, place, type_lock, row_lock, head}
+use Rattle.at_view.specs.Words.{Word, number_of, is_there, table_words, row_lock, head}
 use Rattle.at_core.specs.declared.lock.Lock as lock
 use Rattle.at_core.specs.declared.lock.Lock.TheVariants as locks
-use Rattle.at_core.specs.declared.stored.Stored.{Stored}
 use Rattle.at_core.specs.declared.stored.Stored.TheVariants as stored
 use Rattle.at_core.specs.Heads.{shape_of, HasDictionary}
 use Rattle.at_core.specs.Locks.{lock_word, slot_of, holds}
-use Rattle.at_core.specs.Reads.{past_read, kin_read, number_read, holder_read, kept_read, types_read, row_read, join_read, limit_read}
-use Rattle.at_core.specs.Rule.{Slot, Homes, weight, LockRule, SlotRule, IsLock, Parts, Holds, words_of, heads_of, shape_under}
-use Rattle.at_core.specs.Runs.{Core, opening_words, opening_numbers, opening_lists, IsEmptyBody, IsOpening, IsAllowed, CoreHolds, OpeningHolds}
+use Rattle.at_core.specs.Reads.{past_read, kin_read, holder_read, kept_read, types_read, row_read, join_read, limit_read}
+use Rattle.at_core.specs.Rule.{Homes, weight, LockRule, SlotRule, IsLock, Parts, words_of, heads_of, shape_under}
+use Rattle.at_core.specs.Runs.{Core, opening_words, opening_numbers, opening_lists, IsOpening, IsAllowed, CoreHolds, OpeningHolds}
 use Rattle.at_core.proofs.Lists.{each_one}
 use Rattle.at_core.proofs.Counts.{at_most_one, weight_other}
 

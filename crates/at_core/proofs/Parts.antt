@@ -1,12 +1,9 @@
 -- What a change of one view does to the parts of the rule.
-use Rattle.std.proofs.Common.{◌≡◌, ◌≢◌, ℕ, zero, suc, ◌+◌, ◌<◌, ◌≤◌, Bool, true, false, true≢false, List, [], ◌∷◌, ◌++◌, length, map, set, refl, sym, ap, ◌∙◌, subst, ⊎_elim, arith}
-use Rattle.std.specs.Prelude.{sum_by, count_by}
+use Rattle.std.proofs.Common.{◌≡◌, ℕ, suc, ◌<◌, ◌≤◌, true, false, true≢false, List, length, map, set, refl, sym, ap, ◌∙◌, subst, arith}
 use mathlib.Core.Option.{some}
 use mathlib.Core.List.{IsPrefix}
 use lib.ListN.{get_elem?}
-use Rattle.atomic_table.proofs.Lists.{at_map, set_here, set_else}
-use mathlib.Core.Logic.{dite}
-use native.Mathlib.Decide.{ℕ_discrete}
+use Rattle.atomic_table.proofs.Lists.{at_map, set_here}
 use Rattle.at_value.specs.declared.limits.Limits.{Limits}
 use Rattle.at_value.specs.declared.operation.Op as op
 use Rattle.at_model.specs.World.{World}
@@ -15,11 +12,10 @@ use Rattle.at_view.specs.declared.view.View.{View}
 use Rattle.at_view.specs.Views.{blank}
 use Rattle.at_view.specs.Words.{Words, place}
 use Rattle.at_core.specs.declared.lock.Lock as lock
-use Rattle.at_core.specs.Reads.{PastRead, past_read, fresh_read, KinRead, kin_read, NumberRead, number_read, HolderRead, holder_read, KeptRead, kept_read, TypesRead, types_read, RowRead, row_read, join_read, LimitRead, limit_read}
+use Rattle.at_core.specs.Reads.{PastRead, past_read, fresh_read, kin_read, number_read, HolderRead, holder_read, kept_read, types_read, row_read, join_read, limit_read}
 use Rattle.at_core.specs.Locks.{lock_word}
 use Rattle.at_core.specs.Rule.{Homes, Each, HistoryRule, RoomRule, KinRule, LockRule, NumberRule, KeptRule, TypesRule, RowRule, JoinRule, LimitRule, Ghost, Parts, types_words, row_words}
-use Rattle.at_core.proofs.Lists.{each_set, each_other, there, sum_set, map_set, map_same, map_back}
-use Rattle.at_core.proofs.Prefixes.{prefix_self, prefix_length}
+use Rattle.at_core.proofs.Lists.{each_set, each_other, there, sum_set, map_set, map_same}
 
 -- a part over what it reads of views, of which one changes: where the read is the same, and where it isn't
 pub left_alone : {A : Type 0} (f : View → A) (P : List A → Type 0) (views : List View) (id : ℕ) (v w : View) → get_elem? views id ≡ some v → f w ≡ f v → P (map f views) → P (map f (set views id w))

@@ -1,8 +1,8 @@
 -- A new pass splits off.
-use Rattle.std.proofs.Common.{◌≡◌, ◌≢◌, ◌⊎◌, ℕ, zero, suc, ◌+◌, ◌*◌, ◌<◌, ◌≤◌, ◌==◌, ◌&&◌, Bool, true, false, true≢false, List, [], ◌∷◌, ◌++◌, length, map, set, get_or, eqb, refl, sym, ap, ◌∙◌, subst, ⊎_elim, inl, inr, arith, length-set}
-use Rattle.std.specs.Prelude.{Some, None, count_by, sum_by, unwrap_or, nat_lt}
+use Rattle.std.proofs.Common.{◌≡◌, ◌≢◌, ℕ, zero, suc, ◌*◌, ◌<◌, ◌≤◌, ◌==◌, ◌&&◌, Bool, true, false, true≢false, List, [], ◌∷◌, ◌++◌, length, map, set, get_or, refl, sym, ap, ◌∙◌, subst, arith, length-set}
+use Rattle.std.specs.Prelude.{Some, count_by, sum_by, unwrap_or}
 use Rattle.std.proofs.lemmas.List.Sums.{sum_by_push}
-use mathlib.Core.Option.{some, none}
+use mathlib.Core.Option.{some}
 use mathlib.Core.List.{IsPrefix}
 use mathlib.Core.Logic.{dite}
 use native.Mathlib.Decide.{ℕ_discrete}
@@ -18,12 +18,12 @@ use Rattle.at_view.specs.Views.{blank, no_hold}
 use Rattle.at_view.specs.Words.{Words, place}
 use Rattle.at_core.specs.declared.lock.Lock as lock
 use Rattle.at_core.specs.declared.lock.Lock.TheVariants as locks
-use Rattle.at_core.specs.Locks.{lock_word, slot_of, hold_of, holds}
-use Rattle.at_core.specs.Reads.{PastRead, past_read, fresh_read, KinRead, kin_read, NumberRead, number_read, HolderRead, holder_read, KeptRead, kept_read, TypesRead, types_read, RowRead, row_read, join_read, LimitRead, limit_read}
-use Rattle.at_core.specs.Rule.{Homes, Each, weight, is_born, has_number, HistoryRule, RoomRule, KinRule, LockRule, NumberRule, SlotRule, KeptBy, KeptRule, TypesCopied, TypesRule, RowRule, JoinRule, LimitRule, SpentRule, Ghost, Parts, IsLock, heads_of, types_words, row_words, shape_under}
-use Rattle.at_core.specs.Steps.{HoldsTypesAlone, MaySplit, next_number, lists_parted, parted, child}
+use Rattle.at_core.specs.Locks.{lock_word, slot_of, hold_of}
+use Rattle.at_core.specs.Reads.{PastRead, past_read, fresh_read, KinRead, kin_read, NumberRead, number_read, HolderRead, holder_read, kept_read, TypesRead, types_read, row_read, join_read, limit_read}
+use Rattle.at_core.specs.Rule.{Homes, Each, weight, is_born, has_number, HistoryRule, RoomRule, KinRule, LockRule, NumberRule, SlotRule, KeptBy, TypesCopied, TypesRule, Ghost, Parts, IsLock, heads_of, types_words, row_words, shape_under}
+use Rattle.at_core.specs.Steps.{MaySplit, next_number, lists_parted, parted, child}
 use Rattle.at_core.proofs.Lists.{each_set, each_other, each_snoc, sum_set, sum_le, map_set, map_same, map_snoc, map_back}
-use Rattle.at_core.proofs.Counts.{at_most_one, weight_same, weight_other, times_cons, IsFree, next_is_free, weight_set, count_set_free}
+use Rattle.at_core.proofs.Counts.{at_most_one, weight_other, times_cons, IsFree, next_is_free, weight_set, count_set_free}
 use Rattle.at_core.proofs.Parts.{seen_begins, holder_is}
 
 -- nobody has a child or a trail, and nobody was born, of a birth to come

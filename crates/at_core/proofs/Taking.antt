@@ -1,8 +1,7 @@
 -- A lock is taken, or found held.
-use Rattle.std.proofs.Common.{◌≡◌, ◌≢◌, ◌⊎◌, ℕ, zero, suc, ◌+◌, ◌<◌, ◌≤◌, Bool, true, false, true≢false, List, [], ◌∷◌, ◌++◌, length, map, set, refl, sym, ap, ◌∙◌, subst, ⊎_elim, arith, length-append}
-use Rattle.std.specs.Prelude.{Some, None, Contains}
+use Rattle.std.proofs.Common.{◌≡◌, ◌≢◌, ℕ, suc, ◌<◌, true, List, [], ◌∷◌, ◌++◌, length, map, set, refl, sym, ap, ◌∙◌, subst, ⊎_elim, arith, length-append}
+use Rattle.std.specs.Prelude.{Some}
 use mathlib.Core.Option.{some, none}
-use mathlib.Core.List.{IsPrefix}
 use lib.ListN.{get_elem?}
 use Rattle.atomic_table.proofs.Lists.{at_map, set_here, set_else}
 use Rattle.at_value.specs.declared.limits.Limits.{Limits}
@@ -15,12 +14,11 @@ use Rattle.at_view.specs.declared.view.View.{View}
 use Rattle.at_view.specs.Words.{Words, updated, place}
 use Rattle.at_core.specs.declared.lock.Lock as lock
 use Rattle.at_core.specs.declared.lock.Lock.TheVariants as locks
-use Rattle.at_core.specs.declared.stored.Stored.{Stored}
-use Rattle.at_core.specs.Locks.{lock_word, slot_of, hold_of, holds, copy_at, IsUnchanged, Protects, Excludes, AvoidsRow}
-use Rattle.at_core.specs.Reads.{past_read, fresh_read, kin_read, number_read, HolderRead, holder_read, KeptRead, kept_read, TypesRead, types_read, RowRead, row_read, join_read, limit_read}
-use Rattle.at_core.specs.Rule.{Slot, Homes, Each, HistoryRule, RoomRule, KinRule, LockRule, NumberRule, SlotRule, KeptBy, KeptRule, TypesCopied, TypesRule, RowRule, JoinRule, LimitRule, Ghost, Parts, IsLock, RowsAre, heads_of, types_words, row_words, shape_under}
+use Rattle.at_core.specs.Locks.{lock_word, slot_of, hold_of, copy_at, IsUnchanged, Protects, Excludes}
+use Rattle.at_core.specs.Reads.{past_read, fresh_read, kin_read, number_read, holder_read, kept_read, types_read, row_read, join_read, limit_read}
+use Rattle.at_core.specs.Rule.{Homes, HistoryRule, RoomRule, KinRule, LockRule, NumberRule, SlotRule, KeptBy, KeptRule, TypesCopied, TypesRule, RowRule, JoinRule, LimitRule, Ghost, Parts, IsLock, RowsAre, heads_of, types_words, row_words, shape_under}
 use Rattle.at_core.specs.Steps.{Moment, mark, taken, missed}
-use Rattle.at_core.proofs.Lists.{each_set, there}
+use Rattle.at_core.proofs.Lists.{each_set}
 use Rattle.at_core.proofs.Prefixes.{prefix_self, prefix_trans, prefix_length, prefix_whole}
 use Rattle.at_core.proofs.WordLemmas.{updated_here}
 use Rattle.at_core.proofs.LockLemmas.{lock_cases, slot_apart, other_word, same_place, same_heads, same_types, same_row, hold_marked, hold_taken, hold_beside, copy_taken, copy_beside}

@@ -1,5 +1,5 @@
 -- What a change of one word does to the words by name.
-use Rattle.std.proofs.Common.{◌≡◌, ◌≢◌, ℕ, ◌<◌, Bool, true, false, true≢false, List, length, set, get_or, IsTrue, refl, sym, ap, ◌∙◌, subst, arith, get_or-set_same, get_or-set_other}
+use Rattle.std.proofs.Common.{◌≡◌, ◌≢◌, ℕ, ◌<◌, Bool, true, false, true≢false, List, length, set, get_or, IsTrue, refl, sym, ap, ◌∙◌, subst, get_or-set_same, get_or-set_other}
 use Rattle.std.specs.Prelude.{if◌then◌else◌}
 use lib.Seq.{set-get_or}
 use Rattle.at_view.specs.Words.{Word, Words, number_of, is_there, is_same, updated, table_words}

@@ -1,5 +1,5 @@
 -- The locks of the table: what a view knows of each, and what each protects.
-use Rattle.std.specs.Prelude.{ℕ, suc, ◌≡◌, ◌==◌, ◌≤◌, Bool, false, List, [], ◌∷◌, ◌++◌, length, slice_get, if◌then◌else◌, Contains}
+use Rattle.std.specs.Prelude.{ℕ, suc, ◌≡◌, ◌==◌, ◌≤◌, Bool, List, [], ◌∷◌, ◌++◌, length, slice_get, if◌then◌else◌, Contains}
 use mathlib.Core.List.{IsPrefix}
 use Rattle.at_value.specs.declared.operation.Op as op
 use Rattle.at_model.specs.World.{World}

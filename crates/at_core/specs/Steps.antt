@@ -1,6 +1,6 @@
 -- The steps of the core: what each asks of the pass that makes it, and what it makes of the view of that pass. Each leaves
 -- its mark in the trace. What a step finds and what it does to words and slots stands with the runs.
-use Rattle.std.specs.Prelude.{ℕ, suc, ◌≡◌, ◌<◌, nat_lt, ◌==◌, Bool, true, false, List, [], ◌∷◌, ◌++◌, length, Option, Some, None, slice_set, position, unwrap_or, if◌then◌else◌}
+use Rattle.std.specs.Prelude.{ℕ, suc, ◌≡◌, ◌<◌, ◌==◌, Bool, true, false, List, [], ◌∷◌, ◌++◌, length, Option, Some, None, slice_set, position, unwrap_or, if◌then◌else◌}
 use Rattle.at_value.specs.declared.operation.Op as op
 use Rattle.at_model.specs.World.{World}
 use Rattle.at_model.specs.History.{replay}
@@ -16,7 +16,7 @@ use Rattle.at_view.specs.declared.view.ScanView.{ScanView}
 use Rattle.at_view.specs.declared.view.TypeLists.{TypeLists}
 use Rattle.at_view.specs.declared.view.TypesView.{TypesView}
 use Rattle.at_view.specs.declared.view.View.{View}
-use Rattle.at_view.specs.Views.{blank}
+use Rattle.at_view.specs.Views.{blank, longer}
 use Rattle.at_view.specs.Words.{Word, Words, number_of, place, head, key}
 use Rattle.at_core.specs.declared.lock.Lock as lock
 use Rattle.at_core.specs.declared.lock.Lock.TheVariants as locks
@@ -179,10 +179,6 @@ pub record MayJoin (v other : View) : Type 0 where
 abbrev pub without : ℕ → List ℕ → List ℕ
 without n [] = []
 without n (m ∷ ms) = if m == n then ms else m ∷ without n ms
-
--- the longer of two prefixes of the history
-abbrev pub longer : List op.Op → List op.Op → List op.Op
-longer first second = if nat_lt (length first) (length second) then second else first
 
 -- the lists once the number is free again
 abbrev pub lists_joined : TypeLists → ℕ → TypeLists

@@ -1,8 +1,7 @@
 -- The names of words, and their numbers.
-use Rattle.std.proofs.Common.{◌≡◌, Bool, true, arith}
+use Rattle.std.proofs.Common.{◌≡◌, true, arith}
 use Rattle.std.proofs.lemmas.Grind.{common_steps}
-use Rattle.std.proofs.lemmas.Bool.{eqb-true}
-use Rattle.at_view.specs.Words.{Word, place, type_lock, global_sequence, own_sequence, intent, tag, key, entry_sequence, entry_field, row_lock, head, inline_value, number_of, is_there, family, first_index, second_index, is_same, first_own, first_intent, first_tag, first_key, first_entry, first_object, table_words, AllAreApart, AllAreInside}
+use Rattle.at_view.specs.Words.{Word, place, type_lock, global_sequence, own_sequence, intent, tag, key, entry_sequence, entry_field, row_lock, head, inline_value, is_same, AllAreApart, AllAreInside}
 
 pub inside : AllAreInside
 inside place h = omega arith

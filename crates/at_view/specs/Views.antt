@@ -1,6 +1,7 @@
 -- The view of a pass that has done nothing, from which each other view is made.
-use Rattle.std.specs.Prelude.{ℕ, true, false, [], replicate}
+use Rattle.std.specs.Prelude.{nat_lt, true, false, List, [], length, replicate, if◌then◌else◌}
 use Rattle.at_value.specs.declared.limits.Limits.{Limits}
+use Rattle.at_value.specs.declared.operation.Op as op
 use Rattle.at_view.specs.declared.view.Hold.{Hold}
 use Rattle.at_view.specs.declared.view.TypesWords.{TypesWords}
 use Rattle.at_view.specs.declared.view.RowWords.{RowWords}
@@ -42,6 +43,10 @@ blank = record {
   trace = [];
   kept = [];
 }
+
+-- the longer of two prefixes of the history, which is what two passes have seen together
+abbrev pub longer : List op.Op → List op.Op → List op.Op
+longer first second = if nat_lt (length first) (length second) then second else first
 
 -- the view of the first pass of a table with these limits, which is online
 abbrev pub first_view : Limits → View
