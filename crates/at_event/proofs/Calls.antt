@@ -10,7 +10,7 @@ use Rattle.at_model.specs.Step.{step, is_write}
 use Rattle.at_model.specs.History.{replay}
 use Rattle.at_line.specs.Lines.{history_at}
 use Rattle.at_line.specs.Legal.{world_at, world_before}
-use Rattle.at_view.specs.declared.HistoryView.{HistoryView}
+use Rattle.at_view.specs.declared.view.HistoryView.{HistoryView}
 use Rattle.at_event.specs.Laws.{answer_after}
 use Rattle.at_event.specs.Calls.{IsPrefix, IsCall}
 use Rattle.at_event.specs.Events.{EventState, Event, read, write, first_state, view_of, has_read, has_written, option_change, grown, IsEnabled, after_event, IsEventRun}

@@ -5,9 +5,10 @@ use Rattle.std.proofs.lemmas.List.{length-set}
 use Rattle.at_model.specs.World.{World}
 use Rattle.at_value.specs.declared.operation.Op as op
 use Rattle.at_line.specs.declared.line.What as what
-use Rattle.at_view.specs.declared.HistoryView.{HistoryView}
+use Rattle.at_view.specs.declared.view.HistoryView.{HistoryView}
 use Rattle.at_event.specs.Calls.{IsPrefix}
-use Rattle.at_event.specs.Events.{EventState, Event, join, first_state, view_of, longer, joined_view, option_join, IsEnabled, after_event, IsEventRun}
+use Rattle.at_view.specs.Views.{longer}
+use Rattle.at_event.specs.Events.{EventState, Event, join, first_state, view_of, joined_view, option_join, IsEnabled, after_event, IsEventRun}
 use Rattle.at_event.proofs.Views.{live_within, IsKnown}
 use Rattle.at_event.proofs.Sound.{run_knows}
 

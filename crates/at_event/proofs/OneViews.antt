@@ -13,7 +13,7 @@ use Rattle.at_line.specs.Lines.{main_thread, what_of}
 use Rattle.at_line.specs.Legal.{IsKeptAlone, IsLinearized}
 use Rattle.at_line.specs.Serial.{Adds, IsSerial}
 use Rattle.at_line.proofs.Serials.{adds_weaker, one_thread_in_order, serial_is_linearized}
-use Rattle.at_view.specs.declared.HistoryView.{HistoryView}
+use Rattle.at_view.specs.declared.view.HistoryView.{HistoryView}
 use Rattle.at_event.specs.Events.{EventState, Event, split, join, read, write, first_state, view_of, IsLive, grown, has_read, has_written, option_change, after_event}
 use Rattle.at_event.specs.OneView.{has_place, placed, IsDoneBy, IsOneViewRun}
 use Rattle.at_event.proofs.Serials.{lines_are_serial}

@@ -8,9 +8,10 @@ use mathlib.Core.Logic.{dite}
 use native.Mathlib.Decide.{ℕ_discrete}
 use Rattle.at_model.specs.World.{World}
 use Rattle.at_value.specs.declared.operation.Op as op
-use Rattle.at_view.specs.declared.HistoryView.{HistoryView}
+use Rattle.at_view.specs.declared.view.HistoryView.{HistoryView}
 use Rattle.at_event.specs.Calls.{IsPrefix}
-use Rattle.at_event.specs.Events.{EventState, Event, split, join, read, write, view_of, longer, split_off, has_read, has_written, option_join, option_change, grown, IsEnabled, after_event, own_count, owner_count}
+use Rattle.at_view.specs.Views.{longer}
+use Rattle.at_event.specs.Events.{EventState, Event, split, join, read, write, view_of, split_off, has_read, has_written, option_join, option_change, grown, IsEnabled, after_event, own_count, owner_count}
 
 -- Views by number
 

@@ -7,7 +7,7 @@ use Rattle.at_model.specs.World.{World}
 use Rattle.at_model.specs.Step.{step, is_write, is_done}
 use Rattle.at_line.specs.Lines.{history_at}
 use Rattle.at_line.specs.Legal.{world_at, world_before}
-use Rattle.at_view.specs.declared.HistoryView.{HistoryView}
+use Rattle.at_view.specs.declared.view.HistoryView.{HistoryView}
 
 -- the list begins with this prefix
 abbrev pub IsPrefix : List op.Op → List op.Op → Type 0

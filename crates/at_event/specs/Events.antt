@@ -11,7 +11,8 @@ use Rattle.at_line.specs.declared.line.What.TheVariants as whats
 use Rattle.at_model.specs.World.{World}
 use Rattle.at_model.specs.Step.{step, is_write}
 use Rattle.at_model.specs.History.{replay}
-use Rattle.at_view.specs.declared.HistoryView.{HistoryView}
+use Rattle.at_view.specs.declared.view.HistoryView.{HistoryView}
+use Rattle.at_view.specs.Views.{longer}
 
 -- the history of writes, and the views by number, none where a view is spent; a new view has the next number, so that no
 -- number is used again
@@ -40,10 +41,6 @@ abbrev pub IsLive : EventState → ℕ → Type 0
 IsLive s v = IsSome (view_of s v)
 
 -- Views that change
-
--- the longer of two prefixes of the history
-abbrev pub longer : List op.Op → List op.Op → List op.Op
-longer first second = if nat_lt (length first) (length second) then second else first
 
 -- a new view, which has seen what the other has and has no place of its own
 abbrev pub split_off : ℕ → HistoryView → HistoryView

@@ -10,7 +10,7 @@ use Rattle.at_model.specs.Step.{step}
 use Rattle.at_model.specs.History.{replay, IsProper}
 use Rattle.at_line.specs.Lines.{IsHistory}
 use Rattle.at_line.specs.Legal.{AreWritesTrue, AreReadsTrue, AreRising}
-use Rattle.at_view.specs.declared.HistoryView.{HistoryView}
+use Rattle.at_view.specs.declared.view.HistoryView.{HistoryView}
 use Rattle.at_event.specs.Events.{EventState, Event, join, read, write, first_state, view_of, after_event, grown, IsEnabled, IsEventRun, AreLinesOf, owner_count}
 use Rattle.at_event.specs.Calls.{IsPrefix, IsCall}
 

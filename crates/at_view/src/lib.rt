@@ -1,16 +1,13 @@
-//! What a pass knows of the history of writes. No value of these types is made: contracts alone speak of them.
+//! The words of the shared table by name, and what a pass knows: its view. Contracts alone speak of views; no value of
+//! them is made.
 #![tactic(auto)]
 
-use at_value::Op;
-use std::collections::LinkedList;
+pub mod laws;
+pub mod mark;
+#[cfg(test)]
+mod tests;
+pub mod view;
+pub mod words;
 
-/// What one pass has seen of the history, and which writes are its own: the part of a pass's view over which whole
-/// events are said.
-pub struct HistoryView {
-    /// The birth number, which no other view has, not even a spent one.
-    pub birth: u64,
-    /// The prefix of the history that it has seen, the first write first.
-    pub seen: LinkedList<Op>,
-    /// The places of the writes that it made itself, or that a view made which it has taken in; places count from 1.
-    pub own: LinkedList<u64>,
-}
+pub use mark::{Mark, StepKind, Trail};
+pub use view::{HistoryView, View};

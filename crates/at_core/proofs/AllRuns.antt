@@ -1,0 +1,112 @@
+-- The rule holds after each step of each run.
+use Rattle.std.proofs.Common.{◌≡◌, ◌≢◌, ℕ, false, List, [], ◌∷◌, length, set, refl, sym, ap, ◌∙◌, subst, ⊎_elim, length-set}
+use Rattle.std.specs.Prelude.{Some, None, is_some}
+use mathlib.Core.Option.{some}
+use lib.ListN.{get_elem?}
+use Rattle.at_value.specs.declared.limits.Limits.{Limits}
+use Rattle.at_model.specs.World.{World}
+use Rattle.at_view.specs.declared.view.View.{View}
+use Rattle.at_view.specs.Views.{blank}
+use Rattle.at_core.specs.declared.lock.Lock as lock
+use Rattle.at_core.specs.declared.lock.Lock.TheVariants as locks
+use Rattle.at_core.specs.Locks.{slot_of, holds}
+use Rattle.at_core.specs.Rule.{Slot}
+use Rattle.at_core.specs.Steps.{taken, missed, given, parted, child, merged}
+use Rattle.at_core.specs.Runs.{Core, Event, lock_take, lock_miss, lock_give, slot_out, slot_in, split, join, moment_of, without_hand, Takes, Misses, Gives, Exchanges, Splits, Joins, Goes, CoreHolds, EveryRunHolds}
+use Rattle.at_core.proofs.Lists.{each_set}
+use Rattle.at_core.proofs.LockLemmas.{hold_taken, hold_beside, hold_given, hold_kept}
+use Rattle.at_core.proofs.Hands.{hands_changed, hands_exchanged, at_end, without_here, without_else}
+use Rattle.at_core.proofs.Moves.{take_moves, miss_moves, give_moves, split_moves, join_moves}
+
+same_length : {A : Type 0} (xs : List A) (i : ℕ) (x : A) → length (set xs i x) ≡ length xs
+same_length xs i x = length-set xs i x
+
+hold_parted : (k : lock.Lock) (v : View) → holds k (parted v) ≡ holds k v
+hold_parted locks.Types v = refl
+hold_parted (locks.Row o) v = refl
+
+hold_child : (k : lock.Lock) (v : View) → holds k (child v) ≡ false
+hold_child locks.Types v = refl
+hold_child (locks.Row o) v = refl
+
+hold_merged : (k : lock.Lock) (v w : View) → holds k (merged v w) ≡ holds k v
+hold_merged locks.Types v w = refl
+hold_merged (locks.Row o) v w = refl
+
+hold_blank : (k : lock.Lock) → holds k blank ≡ false
+hold_blank locks.Types = refl
+hold_blank (locks.Row o) = refl
+
+hold_missed : (k l : lock.Lock) (v : View) (n : ℕ) → holds k (missed l v n) ≡ holds k v
+hold_missed locks.Types l v n = refl
+hold_missed (locks.Row o) l v n = refl
+
+module _ (opened : World) (limits : Limits) where
+  landed : (m b : Core) → b ≡ m → CoreHolds opened limits m → CoreHolds opened limits b
+  landed m b e h = subst (CoreHolds opened limits) (sym e) h
+
+  takes_keep : (id : ℕ) (l : lock.Lock) (a b : Core) → CoreHolds opened limits a → Takes id l a b → CoreHolds opened limits b
+  takes_keep id l a b h t = landed _ b t.after (record {
+    table_holds = take_moves opened limits a.table a.ghost h.table_holds id t.view t.makes.there t.makes.live [] l t.value t.is_lock t.free;
+    hands_are = λ j u k. hands_changed a id t.view (taken l t.view (moment_of a)) l (Some (Some t.value)) h.hands_are t.makes.there
+        (ap (λ x. x.held) (sym (hold_taken l t.view (moment_of a))))
+        (λ k ne. ap (λ x. x.held) (hold_beside k l t.view (moment_of a) ne)) j u k;
+  })
+
+  misses_keep : (id : ℕ) (l : lock.Lock) (a b : Core) → CoreHolds opened limits a → Misses id l a b → CoreHolds opened limits b
+  misses_keep id l a b h t = landed _ b t.after (record {
+    table_holds = miss_moves opened limits a.table a.ghost h.table_holds id t.view t.makes.there t.makes.live [] l _ t.is_lock refl;
+    hands_are = λ j u k e is. each_set (λ i x. is_some (a.hands i (slot_of k)) ≡ holds k x) a.table.views id (missed l t.view _)
+        (λ i x e'. h.hands_are i x k e' is) (h.hands_are id t.view k t.makes.there is ∙ sym (hold_missed k l t.view _)) j u e;
+  })
+
+  gives_keep : (id : ℕ) (l : lock.Lock) (a b : Core) → CoreHolds opened limits a → Gives opened id l a b → CoreHolds opened limits b
+  gives_keep id l a b h t = landed _ b t.after (record {
+    table_holds = give_moves opened limits a.table a.ghost h.table_holds id t.view t.makes.there t.makes.live [] l t.back t.value [] t.is_lock t.asked;
+    hands_are = λ j u k. hands_changed a id t.view (given l t.view) l None h.hands_are t.makes.there
+        (ap (λ x. x.held) (sym (hold_given l t.view)))
+        (λ k ne. ap (λ x. x.held) (hold_kept k l t.view ne)) j u k;
+  })
+
+  exchanges_keep : (id : ℕ) (l : lock.Lock) (was now : Slot) (a b : Core) → CoreHolds opened limits a → Exchanges id l was now a b → CoreHolds opened limits b
+  exchanges_keep id l was now a b h t = landed _ b t.after (record {
+    table_holds = h.table_holds;
+    hands_are = λ j u k. hands_exchanged a id t.view l (Some now) h.hands_are t.makes.there (sym t.asked) j u k;
+  })
+
+  splits_keep : (id : ℕ) (a b : Core) → CoreHolds opened limits a → Splits id a b → CoreHolds opened limits b
+  splits_keep id a b h t = landed _ b t.after (record {
+    table_holds = split_moves opened limits a.table a.ghost h.table_holds id t.view t.makes.there t.makes.live [] t.number t.asked;
+    hands_are = λ j u k e is. ⊎_elim
+        (λ (x : (j ≢ length (set a.table.views id (parted t.view))) × (get_elem? (set a.table.views id (parted t.view)) j ≡ some u)).
+            let ne : j ≢ length a.table.views = λ z. x.0 (z ∙ sym (same_length a.table.views id (parted t.view))) in
+            ap is_some (without_else a (length a.table.views) j (slot_of k) ne)
+            ∙ each_set (λ i y. is_some (a.hands i (slot_of k)) ≡ holds k y) a.table.views id (parted t.view) (λ i y e'. h.hands_are i y k e' is)
+                (h.hands_are id t.view k t.makes.there is ∙ sym (hold_parted k t.view)) j u x.1)
+        (λ (x : (j ≡ length (set a.table.views id (parted t.view))) × (child t.view ≡ u)).
+            let e' : j ≡ length a.table.views = x.0 ∙ same_length a.table.views id (parted t.view) in
+            ap (λ (n : ℕ). is_some (without_hand a (length a.table.views) n (slot_of k))) e' ∙ (ap is_some (without_here a (length a.table.views) (slot_of k)) ∙ (sym (hold_child k t.view) ∙ ap (holds k) x.1)))
+        (at_end (set a.table.views id (parted t.view)) (child t.view) j u e);
+  })
+
+  joins_keep : (id other : ℕ) (a b : Core) → CoreHolds opened limits a → Joins id other a b → CoreHolds opened limits b
+  joins_keep id other a b h t = landed _ b t.after (record {
+    table_holds = join_moves opened limits a.table a.ghost h.table_holds id t.view t.makes.there t.makes.live [] other t.joined t.apart t.ends.there t.ends.live t.asked;
+    hands_are = λ j u k e is. each_set (λ i y. is_some (a.hands i (slot_of k)) ≡ holds k y) (set a.table.views id (merged t.view t.joined)) other blank
+        (each_set (λ i y. is_some (a.hands i (slot_of k)) ≡ holds k y) a.table.views id (merged t.view t.joined) (λ i y e'. h.hands_are i y k e' is)
+            (h.hands_are id t.view k t.makes.there is ∙ sym (hold_merged k t.view t.joined)))
+        (h.hands_are other t.joined k t.ends.there is ∙ (t.asked.lockless k ∙ sym (hold_blank k))) j u e;
+  })
+
+  goes_keeps : (event : Event) (a b : Core) → CoreHolds opened limits a → Goes opened event a b → CoreHolds opened limits b
+  goes_keeps (lock_take id l) a b h t = takes_keep id l a b h t
+  goes_keeps (lock_miss id l) a b h t = misses_keep id l a b h t
+  goes_keeps (lock_give id l) a b h t = gives_keep id l a b h t
+  goes_keeps (slot_out id l) a b h t = exchanges_keep id l (Some t.0) None a b h t.1
+  goes_keeps (slot_in id l x) a b h t = exchanges_keep id l None (Some x) a b h t
+  goes_keeps (split id) a b h t = splits_keep id a b h t
+  goes_keeps (join id other) a b h t = joins_keep id other a b h t
+
+pub every_run_holds : EveryRunHolds
+every_run_holds opened limits [] a b h t = subst (CoreHolds opened limits) (sym t) h
+every_run_holds opened limits (event ∷ events) a b h t = every_run_holds opened limits events t.0 b (goes_keeps opened limits event a t.0 h t.1) t.2

@@ -1,0 +1,14 @@
+pub mod Lists
+pub mod Prefixes
+pub mod WordLemmas
+pub mod LockLemmas
+pub mod Parts
+pub mod Taking
+pub mod Giving
+pub mod Counts
+pub mod Splitting
+pub mod Joining
+pub mod Opening
+pub mod Hands
+pub mod Moves
+pub mod AllRuns

@@ -1,0 +1,174 @@
+-- The opening state.
+use Rattle.std.proofs.Common.{◌≡◌, ℕ, zero, suc, ◌+◌, ◌-◌, ◌<◌, ◌≤◌, ◌==◌, ◌&&◌, Bool, true, false, true≢false, List, [], ◌∷◌, length, map, get_or, replicate, refl, sym, ap, ◌∙◌, subst, arith}
+use Rattle.std.specs.Prelude.{Some, count_by, nat_lt, if◌then◌else◌}
+use Rattle.std.proofs.lemmas.Bool.Decides.{nat_tests}
+use Rattle.std.proofs.lemmas.List.{length-replicate, length-map}
+use Rattle.std.proofs.lemmas.List.Sums.{sum_by-cons}
+use mathlib.Core.Option.{some}
+use lib.ListN.{get_elem?}
+use Rattle.atomic_table.proofs.Lists.{at_map}
+use Rattle.at_value.specs.declared.limits.Limits.{Limits}
+use Rattle.at_model.specs.World.{World}
+use Rattle.at_view.specs.declared.view.View.{View}
+use Rattle.at_view.specs.Counts.{passes}
+use Rattle.at_view.specs.Views.{first_view}
+use Rattle.at_view.specs.Words.{Word, number_of, is_there, table_words, row_lock, head}
+use Rattle.at_core.specs.declared.lock.Lock as lock
+use Rattle.at_core.specs.declared.lock.Lock.TheVariants as locks
+use Rattle.at_core.specs.declared.stored.Stored.TheVariants as stored
+use Rattle.at_core.specs.Heads.{shape_of, HasDictionary}
+use Rattle.at_core.specs.Locks.{lock_word, slot_of, holds}
+use Rattle.at_core.specs.Reads.{past_read, kin_read, holder_read, kept_read, types_read, row_read, join_read, limit_read}
+use Rattle.at_core.specs.Rule.{Homes, weight, LockRule, SlotRule, IsLock, Parts, words_of, heads_of, shape_under}
+use Rattle.at_core.specs.Runs.{Core, opening_words, opening_numbers, opening_lists, IsOpening, IsAllowed, CoreHolds, OpeningHolds}
+use Rattle.at_core.proofs.Lists.{each_one}
+use Rattle.at_core.proofs.Counts.{at_most_one, weight_other}
+
+-- what the list has at an index below its length
+has_index : {A : Type 0} (xs : List A) (i : ℕ) → i < length xs → (x : A) × (get_elem? xs i ≡ some x)
+has_index [] i lt = absurd (omega arith)
+has_index (x ∷ xs) zero lt = (x, refl)
+has_index (x ∷ xs) (suc i) lt = has_index xs i (omega arith)
+
+zeros : (n i : ℕ) → ◌≡◌ {A = ℕ} (get_or (replicate n 0) i 0) 0
+zeros zero i = refl
+zeros (suc n) zero = refl
+zeros (suc n) (suc i) = zeros n i
+
+-- each word from the fifth on is 0
+late_zero : (i : ℕ) → 4 ≤ i → get_or opening_words i 0 ≡ 0
+late_zero zero le = absurd (omega arith)
+late_zero (suc zero) le = absurd (omega arith)
+late_zero (suc (suc zero)) le = absurd (omega arith)
+late_zero (suc (suc (suc zero))) le = absurd (omega arith)
+late_zero (suc (suc (suc (suc i)))) le = zeros (table_words - 4) i
+
+late_word : (a : Word) → 4 ≤ number_of a → words_of opening_words a ≡ 0
+late_word a le = by_test (is_there a) refl
+  where
+    by_test : (t : Bool) → is_there a ≡ t → words_of opening_words a ≡ 0
+    by_test true e = ap (λ (t : Bool). if t then get_or opening_words (number_of a) 0 else 0) e ∙ late_zero (number_of a) le
+    by_test false e = ap (λ (t : Bool). if t then get_or opening_words (number_of a) 0 else 0) e
+
+free_at_first : (l : lock.Lock) → words_of opening_words (lock_word l) ≡ 0
+free_at_first locks.Types = refl
+free_at_first (locks.Row o) = late_word (row_lock o) (omega arith)
+
+head_at_first : (o : ℕ) → heads_of (words_of opening_words) o ≡ 0
+head_at_first o = late_word (head o) (omega arith)
+
+no_dictionary : (w : ℕ) → w ≡ 0 → ¬ HasDictionary (shape_of w)
+no_dictionary w e = λ h. let z : (shape_of 0).layout ≡ 2 = ap (λ (n : ℕ). (shape_of n).layout) (sym e) ∙ h in absurd (omega arith)
+
+long_enough : length opening_words ≡ table_words
+long_enough = let n = length-replicate {A = ℕ} (table_words - 4) 0 in omega arith
+
+-- Numbers
+
+trues : (m k : ℕ) → weight (get_or (replicate m true) k false) ≡ weight (nat_lt k m)
+trues zero k = ap weight (sym (let no : nat_lt k 0 ≡ false = grind (arith, nat_tests) in no))
+trues (suc m) zero = ap weight (sym (let yes : nat_lt 0 (suc m) ≡ true = grind (arith, nat_tests) in yes))
+trues (suc m) (suc k) = trues m k ∙ ap weight (same (nat_lt k m) refl)
+  where
+    same : (t : Bool) → nat_lt k m ≡ t → nat_lt k m ≡ nat_lt (suc k) (suc m)
+    same true e = let lt : k < m = grind (arith, e) in let up : nat_lt (suc k) (suc m) ≡ true = grind (arith, nat_tests, lt) in e ∙ sym up
+    same false e = let le : m ≤ k = grind (arith, e) in let up : nat_lt (suc k) (suc m) ≡ false = grind (arith, nat_tests, le) in e ∙ sym up
+
+count_trues : (m : ℕ) → count_by (λ free. free) (replicate m true) ≡ m
+count_trues zero = refl
+count_trues (suc m) = let a = sum_by-cons (λ (b : Bool). weight b) true (replicate m true) in let r = count_trues m in omega arith
+
+number_each : (n : ℕ) → weight (0 == n) + weight (get_or opening_numbers n false) ≡ weight (nat_lt n passes)
+number_each zero = refl
+number_each (suc n) =
+    let z = weight_other 0 (suc n) (λ e. omega arith) in
+    let t = trues (passes - 1) n in
+    let s : weight (nat_lt n (passes - 1)) ≡ weight (nat_lt (suc n) passes) = ap weight (same (nat_lt n (passes - 1)) refl) in
+    omega arith
+  where
+    same : (t : Bool) → nat_lt n (passes - 1) ≡ t → nat_lt n (passes - 1) ≡ nat_lt (suc n) passes
+    same true e = let lt : n < passes - 1 = grind (arith, e) in let up : nat_lt (suc n) passes ≡ true = grind (arith, nat_tests, lt) in e ∙ sym up
+    same false e = let le : passes - 1 ≤ n = grind (arith, e) in let up : nat_lt (suc n) passes ≡ false = grind (arith, nat_tests, le) in e ∙ sym up
+
+no_place : (p : ℕ) → 0 ≡ weight (nat_lt 0 p && nat_lt p 1)
+no_place zero = refl
+no_place (suc p) = let no : nat_lt (suc p) 1 ≡ false = grind (arith, nat_tests) in sym (ap (λ (t : Bool). weight (nat_lt 0 (suc p) && t)) no ∙ and_false (nat_lt 0 (suc p)))
+  where
+    and_false : (t : Bool) → weight (t && false) ≡ 0
+    and_false true = refl
+    and_false false = refl
+
+module _ (opened : World) (limits : Limits) (a : Core) (allowed : IsAllowed limits) (o : IsOpening opened limits a) where
+  v : View
+  v = first_view limits
+
+  nothing_held : (l : lock.Lock) → holds l (first_view limits) ≡ false
+  nothing_held locks.Types = refl
+  nothing_held (locks.Row k) = refl
+
+  lock_is : (l : lock.Lock) → LockRule (words_of opening_words (lock_word l)) (holder_read l (first_view limits) ∷ [])
+  lock_is l = record {
+    named = each_one (λ i u. u.held ≡ true → words_of opening_words (lock_word l) ≡ suc u.number) (holder_read l (first_view limits)) (λ on. absurd (true≢false (sym on ∙ nothing_held l)));
+    one = λ i j u u' e e' h h'. absurd (each_one (λ i u. u.held ≡ true → ⊥) (holder_read l (first_view limits)) (λ on. true≢false (sym on ∙ nothing_held l)) i u e h);
+    holder = λ busy. let z = free_at_first l in absurd (omega arith);
+  }
+
+  homes : Homes
+  homes = map some (Some o.types ∷ o.bodies)
+
+  slot_is : (l : lock.Lock) → IsLock l → SlotRule limits opened (opening_lists limits) (shape_under (heads_of (words_of opening_words)) l) l (words_of opening_words (lock_word l)) (get_elem? (map some (Some o.types ∷ o.bodies)) (slot_of l))
+  slot_is locks.Types is = record { at_home = λ _. (o.types, refl, o.agrees); out = λ busy. let z = free_at_first locks.Types in absurd (omega arith) }
+  slot_is (locks.Row k) is =
+      let lt : k < length o.bodies = (let e = o.long in grind (arith, is, e)) in
+      let there = has_index o.bodies k lt in
+      let body = o.empty k there.0 there.1 in
+      record {
+        at_home = λ _. (
+          stored.Body body.0,
+          at_map some o.bodies k there.0 there.1 ∙ ap (λ x. some (some x)) body.1,
+          (body.0, refl, record { full = λ h. absurd (no_dictionary (heads_of (words_of opening_words) k) (head_at_first k) h); empty = λ _. body.2 }),
+        );
+        out = λ busy. let z = free_at_first (locks.Row k) in absurd (omega arith);
+      }
+
+  parts : Parts opened limits (words_of opening_words) (map some (Some o.types ∷ o.bodies)) (first_view limits ∷ []) (record { history = []; lists = opening_lists limits })
+  parts = record {
+    history = record {
+      counted = refl;
+      proper = tt;
+      begun = each_one _ (past_read (first_view limits)) ([], refl);
+      owned = λ p. no_place p;
+      reached = each_one _ (past_read (first_view limits)) (λ p h. absurd (omega arith));
+    };
+    room = omega arith;
+    kin = record {
+      children = λ b pos. let z = weight_other 0 b (λ e. omega arith) in omega arith;
+      distinct = λ b. let z = at_most_one (0 == b) in omega arith;
+      later = each_one _ (kin_read (first_view limits)) (λ b h. absurd (omega arith));
+      below = each_one _ (kin_read (first_view limits)) (omega arith);
+      kept_below = each_one _ (kin_read (first_view limits)) (λ b h. absurd (omega arith));
+    };
+    locks = lock_is;
+    numbers = record {
+      whole = let n = length-replicate {A = Bool} (passes - 1) true in omega arith;
+      each = λ n. let e = number_each n in omega arith;
+      all = let e = count_trues (passes - 1) in let c = sum_by-cons (λ (b : Bool). weight b) false (replicate (passes - 1) true) in omega arith;
+    };
+    slots = slot_is;
+    rows_are = λ k h. absurd (no_dictionary (heads_of (words_of opening_words) k) (head_at_first k) h);
+    kept = λ l. each_one _ (kept_read l (first_view limits)) (λ on. absurd (true≢false (sym on ∙ nothing_held l)));
+    types = each_one _ (types_read (first_view limits)) (λ on. absurd (true≢false (sym on)));
+    rows = λ k. each_one _ (row_read k (first_view limits)) (λ on. absurd (true≢false (sym on)));
+    joins = each_one _ (join_read (first_view limits)) (([], refl), ([], refl));
+    limited = each_one _ (limit_read (first_view limits)) (λ _. refl);
+    spent = each_one _ (first_view limits) (λ off. absurd (true≢false off));
+  }
+
+  pub opens : CoreHolds opened limits a
+  opens = subst (CoreHolds opened limits) (sym o.after) (record {
+    table_holds = record { words_are = long_enough; slots_are = ap suc (length-map o.bodies some ∙ o.long); small = allowed; parts = parts };
+    hands_are = λ id u l e is. each_one (λ i x. false ≡ holds l x) (first_view limits) (sym (nothing_held l)) id u e;
+  })
+
+pub opening_holds : OpeningHolds
+opening_holds = opens

@@ -1,0 +1,64 @@
+-- What each step tells the pass that makes it.
+use Rattle.std.specs.Prelude.{ℕ, suc, ◌≡◌, ◌≢◌, ◌<◌, ◌≤◌, [], ◌∷◌, ◌++◌, length, Some}
+use mathlib.Core.List.{IsPrefix}
+use Rattle.atomic_table.specs.Table.{Me, Step, rest}
+use Rattle.at_model.specs.World.{World}
+use Rattle.at_model.specs.History.{IsProper}
+use Rattle.at_types.specs.Tags.{times}
+use Rattle.at_view.specs.declared.view.View.{View}
+use Rattle.at_view.specs.Counts.{passes}
+use Rattle.at_view.specs.Words.{number_of}
+use Rattle.at_core.specs.declared.lock.Lock as lock
+use Rattle.at_core.specs.declared.stored.Stored.{Stored}
+use Rattle.at_core.specs.Locks.{lock_word, slot_of}
+use Rattle.at_core.specs.Reads.{births_of}
+use Rattle.at_core.specs.Rule.{Slot, IsLock}
+use Rattle.at_core.specs.Steps.{Moment, taken, missed, given, ValueAgrees}
+
+-- the first pass, without a child: the only live one
+pub record IsAlone (v : View) : Type 0 where
+  pub first : v.history.birth ≡ 0
+  pub childless : v.who.children ≡ []
+
+-- the word is that of this lock
+pub record IsWordOf (st : Step Slot) (l : lock.Lock) : Type 0 where
+  pub there : IsLock l
+  pub is : st.word ≡ number_of (lock_word l)
+
+-- What a pass that took the lock learns of the moment: it comes after what it had seen, and is that where the pass is alone;
+-- the value in the slot is right; and the births to come are above its own and those of the passes that were split off it or
+-- taken in.
+pub record Took (opened : World) (l : lock.Lock) (v : View) (at : Moment) (x : Stored) : Type 0 where
+  pub later : IsPrefix v.history.seen at.history
+  pub alone : IsAlone v → at.history ≡ v.history.seen
+  pub proper : IsProper opened at.history
+  pub value : ValueAgrees opened l (taken l v at) at.lists x
+  pub numbers : length at.lists.numbers ≡ passes
+  pub born : v.history.birth < at.lists.next_birth
+  pub younger : (b : ℕ) → 0 < times b (v.who.children ++ births_of v.kept) → b < at.lists.next_birth
+
+-- what a pass that found the lock held learns: the number of another pass, which holds it, and that it isn't alone
+pub record Found (v : View) (word : ℕ) : Type 0 where
+  pub number : ℕ
+  pub is : word ≡ suc number
+  pub small : number < passes
+  pub other : number ≢ v.who.number
+  pub company : ¬ IsAlone v
+
+-- A try to take a lock stores the pass's number and 1 where it finds 0, and else nothing.
+abbrev pub Takes : World → Step Slot → Me Slot View → ℕ → Me Slot View → Type 0
+Takes opened st m n m' = (l : lock.Lock) → IsWordOf st l
+    → (st.first ≡ 0) × (st.second ≡ suc m.0.who.number)
+    × (n ≡ 0 → (at : Moment) × (x : Stored) × (m' ≡ (taken l m.0 at, (slot_of l, Some x) ∷ m.1)) × Took opened l m.0 at x)
+    × (n ≢ 0 → (m' ≡ (missed l m.0 n, m.1)) × Found m.0 n)
+
+-- What a join has brought: what two passes had seen when they were joined, and is no longer than what is seen now, begins
+-- that; and no place is own twice.
+pub record Brought (v : View) : Type 0 where
+  pub first : length v.joined.first ≤ length v.history.seen → IsPrefix v.joined.first v.history.seen
+  pub second : length v.joined.second ≤ length v.history.seen → IsPrefix v.joined.second v.history.seen
+  pub once : (p : ℕ) → times p v.history.own ≤ 1
+
+-- A give stores 0.
+abbrev pub Gives : Step Slot → Me Slot View → ℕ → Me Slot View → Type 0
+Gives st m n m' = (l : lock.Lock) → IsWordOf st l → (n ≡ 0) × (m' ≡ (given l m.0, rest m.1)) × Brought m.0

@@ -1,0 +1,227 @@
+-- Runs of the core: steps by any passes in any order.
+use Rattle.std.specs.Prelude.{ℕ, suc, ◌≡◌, ◌≢◌, ◌+◌, ◌-◌, ◌<◌, ◌^◌, ◌==◌, ◌&&◌, Bool, true, false, List, [], ◌∷◌, ◌++◌, length, replicate, Option, Some, None, is_some, slice_set, if◌then◌else◌}
+use mathlib.Core.Option.{some}
+use lib.ListN.{get_elem?}
+use Rattle.atomic_table.specs.Table.{Act, keeps, takes, gives, stepped, opening}
+use Rattle.at_value.specs.Widths.{objects}
+use Rattle.at_value.specs.declared.limits.Limits.{Limits}
+use Rattle.at_model.specs.World.{World, IsWellFormed}
+use Rattle.at_dict.specs.Dictionary.{Dictionary}
+use Rattle.at_types.specs.Tags.{tags_to}
+use Rattle.at_view.specs.declared.view.TypeLists.{TypeLists}
+use Rattle.at_view.specs.declared.view.View.{View}
+use Rattle.at_view.specs.Counts.{passes}
+use Rattle.at_view.specs.Views.{blank, first_view}
+use Rattle.at_view.specs.Words.{Words, Word, number_of, table_words}
+use Rattle.at_core.specs.declared.lock.Lock as lock
+use Rattle.at_core.specs.declared.lock.Lock.TheVariants as locks
+use Rattle.at_core.specs.declared.stored.Stored.{Stored}
+use Rattle.at_core.specs.declared.stored.Stored.TheVariants as stored
+use Rattle.at_core.specs.Locks.{lock_word, slot_of, holds}
+use Rattle.at_core.specs.Rule.{Slot, Board, Ghost, Holds, IsLock, TypesAgree, words_of}
+use Rattle.at_core.specs.Steps.{Moment, MayTake, taken, missed, MayGive, given, lists_given, MaySplit, lists_parted, parted, child, MayJoin, lists_joined, merged}
+
+-- what the passes have in hand: by the number of a view and that of a slot, the slot where it is out to that pass
+abbrev pub Hands : Type 0
+Hands = ℕ → ℕ → Option Slot
+
+-- the table, what the passes have in hand, and what exists in proofs alone
+pub record Core : Type 0 where
+  pub table : Board
+  pub hands : Hands
+  pub ghost : Ghost
+
+pub data Event : Type 0 where
+  -- the pass takes a lock, or finds it held
+  lock_take : ℕ → lock.Lock → Event
+  lock_miss : ℕ → lock.Lock → Event
+  -- it gives the lock back
+  lock_give : ℕ → lock.Lock → Event
+  -- it takes the value out of the slot of a lock, or puts one in
+  slot_out : ℕ → lock.Lock → Event
+  slot_in : ℕ → lock.Lock → Stored → Event
+  -- a new pass splits off, and it takes in another
+  split : ℕ → Event
+  join : ℕ → ℕ → Event
+
+abbrev pub words_at : Core → Words
+words_at a = words_of a.table.words
+
+abbrev pub moment_of : Core → Moment
+moment_of a = record { history = a.ghost.history; lists = a.ghost.lists; words = words_at a }
+
+-- the pass with the view of this number is live, and has this view
+pub record Makes (a : Core) (id : ℕ) (v : View) : Type 0 where
+  pub there : get_elem? a.table.views id ≡ some v
+  pub live : v.who.live ≡ true
+
+-- the hands, of which one has a slot or has it no more
+abbrev pub with_hand : Core → ℕ → lock.Lock → Option Slot → Hands
+with_hand a id l slot = λ j k. if (j == id) && (k == slot_of l) then slot else a.hands j k
+
+-- the hands, of which one is empty
+abbrev pub without_hand : Core → ℕ → Hands
+without_hand a id = λ j k. if j == id then None else a.hands j k
+
+-- the word is now n, and the view of the pass w
+abbrev pub table_after : Core → ℕ → Word → ℕ → View → Act Slot → List (ℕ × Slot) → Board
+table_after a id word n w act hand = stepped a.table (number_of word) n id hand w act
+
+-- the views have changed, and no word has
+abbrev pub with_views : Board → List View → Board
+with_views s views = record { words = s.words; homes = s.homes; views = views }
+
+-- A lock that is free is taken, with its slot.
+pub record Takes (id : ℕ) (l : lock.Lock) (a b : Core) : Type 0 where
+  pub view : View
+  pub value : Stored
+  pub makes : Makes a id view
+  pub asked : MayTake l view
+  pub is_lock : IsLock l
+  pub free : words_at a (lock_word l) ≡ 0
+  pub home : get_elem? a.table.homes (slot_of l) ≡ some (some (Some value))
+  pub after : b ≡ record {
+    table = table_after a id (lock_word l) (suc view.who.number) (taken l view (moment_of a)) (takes (slot_of l) (Some value)) [];
+    hands = with_hand a id l (Some (Some value));
+    ghost = a.ghost;
+  }
+
+-- A lock is found held, and nothing is taken.
+pub record Misses (id : ℕ) (l : lock.Lock) (a b : Core) : Type 0 where
+  pub view : View
+  pub makes : Makes a id view
+  pub asked : MayTake l view
+  pub is_lock : IsLock l
+  pub busy : words_at a (lock_word l) ≢ 0
+  pub after : b ≡ record {
+    table = table_after a id (lock_word l) (words_at a (lock_word l)) (missed l view (words_at a (lock_word l))) keeps [];
+    hands = a.hands;
+    ghost = a.ghost;
+  }
+
+-- A lock is given back, with its slot.
+pub record Gives (opened : World) (id : ℕ) (l : lock.Lock) (a b : Core) : Type 0 where
+  pub view : View
+  pub value : Stored
+  pub back : TypeLists
+  pub makes : Makes a id view
+  pub is_lock : IsLock l
+  pub in_hand : a.hands id (slot_of l) ≡ Some (Some value)
+  pub asked : MayGive opened l view back value
+  pub after : b ≡ record {
+    table = table_after a id (lock_word l) 0 (given l view) gives ((slot_of l, Some value) ∷ []);
+    hands = with_hand a id l None;
+    ghost = record a.ghost { lists = lists_given l back a.ghost.lists };
+  }
+
+-- A value leaves the slot of a lock that the pass holds, or comes into it. No word and no view changes.
+pub record Exchanges (id : ℕ) (l : lock.Lock) (was now : Slot) (a b : Core) : Type 0 where
+  pub view : View
+  pub makes : Makes a id view
+  pub is_lock : IsLock l
+  pub asked : holds l view ≡ true
+  pub in_hand : a.hands id (slot_of l) ≡ Some was
+  pub after : b ≡ record { table = a.table; hands = with_hand a id l (Some now); ghost = a.ghost }
+
+-- the pass has the slot of the types, and it is empty
+abbrev pub HasTypesOut : Core → ℕ → Type 0
+HasTypesOut a id = a.hands id (slot_of locks.Types) ≡ Some None
+
+-- A new pass splits off. It has nothing in hand.
+pub record Splits (id : ℕ) (a b : Core) : Type 0 where
+  pub view : View
+  pub number : ℕ
+  pub makes : Makes a id view
+  pub out : HasTypesOut a id
+  pub asked : MaySplit view number
+  pub after : b ≡ record {
+    table = with_views a.table (slice_set a.table.views id (parted view) ++ child view ∷ []);
+    hands = without_hand a (length a.table.views);
+    ghost = record a.ghost { lists = lists_parted a.ghost.lists };
+  }
+
+-- A pass takes in another, of which nothing is left.
+pub record Joins (id other : ℕ) (a b : Core) : Type 0 where
+  pub view : View
+  pub joined : View
+  pub makes : Makes a id view
+  pub apart : other ≢ id
+  pub ends : Makes a other joined
+  pub out : HasTypesOut a id
+  pub asked : MayJoin view joined
+  pub after : b ≡ record {
+    table = with_views a.table (slice_set (slice_set a.table.views id (merged view joined)) other blank);
+    hands = a.hands;
+    ghost = record a.ghost { lists = lists_joined a.ghost.lists joined.who.number };
+  }
+
+-- the event leads from one state to the other
+abbrev pub Goes : World → Event → Core → Core → Type 0
+Goes opened (lock_take id l) a b = Takes id l a b
+Goes opened (lock_miss id l) a b = Misses id l a b
+Goes opened (lock_give id l) a b = Gives opened id l a b
+Goes opened (slot_out id l) a b = (x : Stored) × Exchanges id l (Some x) None a b
+Goes opened (slot_in id l x) a b = Exchanges id l None (Some x) a b
+Goes opened (split id) a b = Splits id a b
+Goes opened (join id other) a b = Joins id other a b
+
+-- these events lead from one state to the other
+abbrev pub Leads : World → List Event → Core → Core → Type 0
+Leads opened [] a b = b ≡ a
+Leads opened (event ∷ events) a b = (between : Core) × Goes opened event a between × Leads opened events between b
+
+-- The opening
+
+-- at first each word is 0, but the global sequence and that of the first pass
+abbrev pub opening_words : List ℕ
+opening_words = 0 ∷ 0 ∷ 1 ∷ 1 ∷ replicate (table_words - 4) 0
+
+-- the number 0 is that of the first pass
+abbrev pub opening_numbers : List Bool
+opening_numbers = false ∷ replicate (passes - 1) true
+
+-- at first no tag is given, and the next pass is the second
+abbrev pub opening_lists : Limits → TypeLists
+opening_lists limits = record { numbers = opening_numbers; next_birth = 1; pool = tags_to limits.tags; limbo = [] }
+
+-- the slot has an empty dictionary
+abbrev pub IsEmptyBody : Slot → Type 0
+IsEmptyBody x = (body : Dictionary) × (x ≡ Some (stored.Body body)) × (body.map ≡ [])
+
+-- At first the slots have the types of the opening world, which has no object, and an empty dictionary for each row.
+pub record IsOpening (opened : World) (limits : Limits) (a : Core) : Type 0 where
+  pub types : Stored
+  pub bodies : List Slot
+  pub whole : IsWellFormed opened
+  pub objectless : opened.objects ≡ []
+  pub agrees : (t : _) × (types ≡ stored.Types t) × TypesAgree limits.tags opened (opening_lists limits) t.value
+  pub long : length bodies ≡ objects
+  pub empty : (o : ℕ) (x : Slot) → get_elem? bodies o ≡ some x → IsEmptyBody x
+  pub after : a ≡ record {
+    table = opening opening_words (Some types ∷ bodies) (first_view limits);
+    hands = λ id slot. None;
+    ghost = record { history = []; lists = opening_lists limits };
+  }
+
+-- The laws of runs
+
+-- no count of writes wraps
+abbrev pub IsAllowed : Limits → Type 0
+IsAllowed limits = limits.place_max + passes < 2 ^ 64
+
+-- a slot is out exactly to the pass that holds its lock
+abbrev pub HandsAreRight : Core → Type 0
+HandsAreRight a = (id : ℕ) (v : View) (l : lock.Lock) → get_elem? a.table.views id ≡ some v → IsLock l → is_some (a.hands id (slot_of l)) ≡ holds l v
+
+-- the rule holds of the table, and the hands are right
+pub record CoreHolds (opened : World) (limits : Limits) (a : Core) : Type 0 where
+  pub table_holds : Holds opened limits a.table a.ghost
+  pub hands_are : HandsAreRight a
+
+-- it is so in the opening state
+abbrev pub OpeningHolds : Type 0
+OpeningHolds = (opened : World) (limits : Limits) (a : Core) → IsAllowed limits → IsOpening opened limits a → CoreHolds opened limits a
+
+-- and after each step of each run
+abbrev pub EveryRunHolds : Type 0
+EveryRunHolds = (opened : World) (limits : Limits) (events : List Event) (a b : Core) → CoreHolds opened limits a → Leads opened events a b → CoreHolds opened limits b

@@ -1,0 +1,12 @@
+//! What is true of every run of the core. Each function does nothing: its contract is the law.
+ghost use Rattle.at_core.specs.Runs.{EveryRunHolds, OpeningHolds};
+
+/// However passes interleave, the rule of the table holds after each step of each run: locks have one holder, a value at
+/// home agrees with the history, a held lock keeps what it protects, births and numbers are distinct, and a slot is out
+/// exactly to the pass that holds its lock. It holds in the opening state, and each step that is asked for what it asks
+/// leaves it so. The steps are those that take a lock or find it held, give it back, take a value out of a slot or put
+/// one in, split a pass off, and take a pass in.
+pub fn every_run()
+    ensures opened { OpeningHolds }
+    ensures kept { EveryRunHolds }
+{}

@@ -1,0 +1,12 @@
+//! The atomic core: the rule of the shared table, the steps of its passes, and the law that every run of steps keeps the
+//! rule.
+#![tactic(auto)]
+
+pub mod laws;
+pub mod lock;
+pub mod stored;
+#[cfg(test)]
+mod tests;
+
+pub use lock::Lock;
+pub use stored::Stored;
