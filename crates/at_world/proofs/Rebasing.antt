@@ -8,7 +8,7 @@ use Rattle.at_c3.specs.Laws.{IsSubsequence}
 use Rattle.at_c3.proofs.NumberLemmas.{has}
 use Rattle.at_c3.proofs.RunLemmas.{prefixed-some}
 use Rattle.at_model.specs.declared.rows.ClassRow.{ClassRow}
-use Rattle.at_model.specs.World.{World, row_of, own_of, order_before, all_orders, merged_order, order_of_row, order_within, order_in}
+use Rattle.at_model.specs.World.{World, row_of, row_or_empty, order_before, all_orders, merged_order, order_of_row, order_within, order_in}
 use Rattle.at_model.specs.Step.{is_in_order, is_empty, rebased}
 use Rattle.at_model.specs.StoredOrders.{AreOrders}
 use Rattle.at_world.specs.Plain.{order_or_none, order_by}
@@ -136,7 +136,7 @@ pub renewed_first : (classes : List (Option ClassRow)) (was : List (List ℕ)) (
     → c < length was → order_or_none order ≡ order_by was c bases
     → AreRenewed (rebased classes c bases) classes was c 0 0 (set was c order)
 renewed_first classes was c bases order are made apart room is =
-    let row : ClassRow = record { bases = bases; own = own_of (row_of classes c) } in
+    let row : ClassRow = record (row_or_empty (row_of classes c)) { bases = bases } in
     let changed = rebased classes c bases in
     let all = and_parts (is_some (row_of classes c)) (list_all (λ x. is_some (row_of classes x)) bases) made in
     let each : (b : ℕ) → has b bases ≡ true → IsNewOrder changed was b = λ b at.
@@ -215,7 +215,7 @@ pub renewed_due : (classes : List (Option ClassRow)) (was : List (List ℕ)) (c 
 renewed_due classes was c long i bases orders row order are so_far due room is =
     let changed = rebased classes c bases in
     let found = due_parts classes was c long i row due in
-    let at : row_of changed i ≡ Some row = get_or-set_other classes c i (Some (record { bases = bases; own = own_of (row_of classes c) })) None found.0 ∙ found.2 in
+    let at : row_of changed i ≡ Some row = get_or-set_other classes c i (Some (record (row_or_empty (row_of classes c)) { bases = bases })) None found.0 ∙ found.2 in
     let each : (b : ℕ) → has b row.bases ≡ true → IsNewOrder changed orders b = λ b base.
     let shorter = base_is_shorter classes was i b row are found.2 base in so_far.shorter b shorter.0 (omega (arith, shorter.1, found.1)) in
     let here : IsNewOrder changed (set orders i order) i =
@@ -251,7 +251,7 @@ renewed_round changed classes was c long next orders so_far all = record {
 pub made-rebased : (classes : List (Option ClassRow)) (c : ℕ) (bases : List ℕ) → IsTrue (is_some (row_of classes c)) → (d : ℕ)
     → is_some (row_of (rebased classes c bases) d) ≡ is_some (row_of classes d)
 made-rebased classes c bases made d =
-    let row : Option ClassRow = Some (record { bases = bases; own = own_of (row_of classes c) }) in
+    let row : Option ClassRow = Some (record (row_or_empty (row_of classes c)) { bases = bases }) in
     elim (cases_eq d c) [
       | inl same ↦
           ap (λ x. is_some (row_of (set classes c row) x)) same ∙ ap is_some (get_or-set_same classes c row None (made_below classes c made))
