@@ -19,8 +19,7 @@ impl Plain {
         requires { IsTrue (steps.are_made self.old.world bases.now) }
         ensures ok { IfOk result (IsOutcome (steps.new_class_effect self.old.world c bases.now) self.old self.new) }
         ensures err { OnErr result (self.new ≡ self.old) }
-        ensures refused {
-            wants_memory (steps.new_class_effect self.old.world c bases.now).reply ≡ false → IsOk result }
+        ensures refused { wants_memory (steps.new_class_effect self.old.world c bases.now).reply ≡ false → IsOk result }
     {
         if self.has_class(c) {
             return Ok(Reply::NameTaken);

@@ -26,8 +26,7 @@ impl Plain {
         requires { IsTrue (steps.are_made self.old.world (c ∷ bases.now)) }
         ensures ok { IfOk result (IsOutcome (steps.set_bases_effect self.old.world c bases.now) self.old self.new) }
         ensures err { OnErr result (self.new ≡ self.old) }
-        ensures refused {
-            wants_memory (steps.set_bases_effect self.old.world c bases.now).reply ≡ false → IsOk result }
+        ensures refused { wants_memory (steps.set_bases_effect self.old.world c bases.now).reply ≡ false → IsOk result }
     {
         if c == Class::object() {
             return Ok(Reply::Immutable);
