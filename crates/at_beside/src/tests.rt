@@ -1,5 +1,5 @@
-//! The replies, orders and own names of `Types` are those of `Plain`, on 4,845 random graphs of classes from fixed seeds:
-//! 969 graphs a test.
+//! The replies, orders and own names of `Types` are those of `Plain`, on 4,845 random graphs of classes from fixed
+//! seeds: 969 graphs a test.
 
 ghost use Rattle.std.specs.Prelude.{◌<◌};
 

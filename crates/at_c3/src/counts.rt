@@ -1,5 +1,6 @@
 //! How often numbers were counted.
-ghost use Rattle.std.specs.Prelude.{◌≡◌, ◌==◌, ◌<◌, ◌≤◌, ◌+◌, ◌++◌, ◌∷◌, [], ℕ, List, not, length, slice_index, All, IsOk, OnOk};
+ghost use Rattle.std.specs.Prelude.{◌≡◌, ◌==◌, ◌<◌, ◌≤◌, ◌+◌, ◌++◌, ◌∷◌, [], ℕ, List, not, length, slice_index, All};
+ghost use Rattle.std.specs.Prelude.{IsOk, OnOk};
 ghost use Rattle.smallvec.specs.SmallVec.{small_vec_len};
 ghost use Rattle.at_c3.specs.Counts.{AreCountsOf};
 ghost use Rattle.at_c3.specs.Room.{count_room};

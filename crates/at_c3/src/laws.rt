@@ -1,6 +1,7 @@
 //! What is true of every merge and of every order. Each function does nothing: its contract is
 //! the law.
-ghost use Rattle.at_c3.specs.Laws.{MergeIsTheRelation, MergeHasEachNumberOnce, MergePreservesEveryOrder, OrderBeginsWithItsClass, OrderPreservesEveryOrder};
+ghost use Rattle.at_c3.specs.Laws.{MergeIsTheRelation, MergeHasEachNumberOnce, MergePreservesEveryOrder};
+ghost use Rattle.at_c3.specs.Laws.{OrderBeginsWithItsClass, OrderPreservesEveryOrder};
 
 /// The merge is the list that the relation of the C3 paper allows, and there is none where it
 /// allows none.

@@ -1,5 +1,6 @@
 //! The merge of lists, and the order of a class.
-ghost use Rattle.std.specs.Prelude.{◌≡◌, ◌≤◌, ◌++◌, ◌∷◌, [], ℕ, List, length, drop, Some, None, map, OnOk, IfOk, IsOk, IsErr, IsSome, IsErrOf, IsOkUnless};
+ghost use Rattle.std.specs.Prelude.{◌≡◌, ◌≤◌, ◌++◌, ◌∷◌, [], ℕ, List, length, drop, Some, None, map, OnOk, IfOk, IsOk};
+ghost use Rattle.std.specs.Prelude.{IsErr, IsSome, IsErrOf, IsOkUnless};
 ghost use Rattle.std.specs.List.{list_all, concat};
 ghost use Rattle.smallvec.specs.SmallVec.{HasRoomFor};
 ghost use Rattle.at_c3.specs.Counts.{AreCountsOf, tail_numbers};

@@ -1,6 +1,7 @@
 //! What a value that is found on a class gives to a reader.
 ghost use Rattle.std.specs.Prelude.{◌≡◌};
-ghost use Rattle.at_desc.specs.Binding.{read_property, read_descriptor, bound, bound_special, comes_first, or_getattr, bound_get, bound_to_class, bound_class};
+ghost use Rattle.at_desc.specs.Binding.{read_property, read_descriptor, bound, bound_special, comes_first, or_getattr};
+ghost use Rattle.at_desc.specs.Binding.{bound_get, bound_to_class, bound_class};
 
 use crate::descriptor::Three;
 use at_value::{Class, Func, HookKind, Name, Obj, Reply, Value};
@@ -93,8 +94,8 @@ fn hook_or(a: Option<Value>, o: Obj, n: Name, reply: Reply) -> Reply
 }
 
 /// The reply to reading name n of object o of class c: the class has t, `three` is what t has as a descriptor, the
-/// object's dictionary has `own`, and the class has a as `__getattr__`. A property, and an object with `__get__` and one
-/// of `__set__` and `__delete__`, come before the object's own value. Only where there is no `__getattr__` it is
+/// object's dictionary has `own`, and the class has a as `__getattr__`. A property, and an object with `__get__` and
+/// one of `__set__` and `__delete__`, come before the object's own value. Only where there is no `__getattr__` it is
 /// `NoGetter`, exactly for a property without a getter, or `NoAttr`, exactly where there is neither t nor `own`.
 ///
 /// After the Python language reference, "Invoking Descriptors" and "Customizing attribute access".

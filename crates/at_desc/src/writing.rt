@@ -1,6 +1,7 @@
 //! How a value that is found on a class takes a write or a deletion.
 ghost use Rattle.std.specs.Prelude.{◌≡◌};
-ghost use Rattle.at_desc.specs.Binding.{write_property, write_descriptor, bound_set, delete_property, delete_descriptor, bound_del};
+ghost use Rattle.at_desc.specs.Binding.{write_property, write_descriptor, bound_set, delete_property};
+ghost use Rattle.at_desc.specs.Binding.{delete_descriptor, bound_del};
 
 use crate::descriptor::{Step, Three};
 use at_value::{Func, HookKind, Obj, Reply, Value};
@@ -86,8 +87,8 @@ fn descriptor_delete(set: Option<Value>, del: Option<Value>, d: Obj, o: Obj) -> 
     }
 }
 
-/// How a deletion of an attribute of object o goes on: the class has t, and `three` is what t has as a descriptor. It is
-/// `Own` where the deletion is left to the object's own dictionary, and `NoDeleter` where t is a property without a
+/// How a deletion of an attribute of object o goes on: the class has t, and `three` is what t has as a descriptor. It
+/// is `Own` where the deletion is left to the object's own dictionary, and `NoDeleter` where t is a property without a
 /// deleter, or an object whose class has `__set__` and no `__delete__`.
 ///
 /// After the Python language reference, "Implementing Descriptors" and "Invoking Descriptors".

@@ -4,14 +4,14 @@ ghost use Rattle.at_event.specs.Worked.{IsWorked};
 ghost use Rattle.at_event.specs.OneView.{OneViewRunsAreLinearized, SerialLinesAreEvents};
 
 /// However views split, join, read and write, each event at one moment, the outcome is one history: it is proper, the
-/// lines of the events have true replies at their places in it, places rise in each view, and each place of the history is
-/// the own place of exactly one live view.
+/// lines of the events have true replies at their places in it, places rise in each view, and each place of the
+/// history is the own place of exactly one live view.
 pub fn every_events()
     ensures { EventsAreSound }
 {}
 
-/// Each read and each write of an event is a call at one place, by the view that makes it, in every state that events lead
-/// to.
+/// Each read and each write of an event is a call at one place, by the view that makes it, in every state that events
+/// lead to.
 pub fn events_are_calls()
     ensures reads { ReadsAreCalls }
     ensures writes { WritesAreCalls }
@@ -28,8 +28,8 @@ pub fn one_view_is_linearized()
     ensures { OneViewRunsAreLinearized }
 {}
 
-/// What lines say one after another, each at the end of the history so far, reads and writes of one view say: a thread that
-/// runs alone is one view.
+/// What lines say one after another, each at the end of the history so far, reads and writes of one view say: a thread
+/// that runs alone is one view.
 pub fn serial_lines_are_events()
     ensures { SerialLinesAreEvents }
 {}

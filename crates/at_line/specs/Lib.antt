@@ -6,3 +6,4 @@ pub mod Serial
 pub mod Laws
 pub mod LineExamples
 pub mod KeptExamples
+pub mod Types

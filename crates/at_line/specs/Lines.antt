@@ -9,16 +9,16 @@ use Rattle.at_line.specs.declared.line.What as what
 use Rattle.at_line.specs.declared.line.What.TheVariants as whats
 use Rattle.at_model.specs.Step.{is_done}
 
--- The threads of lines: `main` is thread 0, the threads of the script are numbered from 1, and `finally` has the number
--- after the most of them.
+-- The threads of lines: `main` is thread 0, the threads of the script are numbered from 1 up to at most the last, and
+-- `finally` has the number after it.
 abbrev pub main_thread : ℕ
 main_thread = 0
 
-abbrev pub most_threads : ℕ
-most_threads = 32
+abbrev pub last_thread : ℕ
+last_thread = 32
 
 abbrev pub finally_thread : ℕ
-finally_thread = suc most_threads
+finally_thread = suc last_thread
 
 -- the lines of a thread, in the order in which they stand
 abbrev pub lines_of_thread : ℕ → List Line → List Line

@@ -2,26 +2,22 @@
 -- section under the locks of its objects, each other operation under the lock of the types. Fast is the way without the
 -- lock of the types; slow is the way under that lock after a miss on the fast way.
 use Rattle.std.specs.Prelude.{Bool, true, false, not, ◌||◌, IsTrue, List, All}
-use Rattle.at_value.specs.declared.operation.Op as op
+use Rattle.at_value.specs.Types.{Op, Miss, Path}
 use Rattle.at_value.specs.declared.operation.Op.TheVariants as ops
-use Rattle.at_value.specs.declared.reply.Miss as miss
 use Rattle.at_value.specs.declared.reply.Miss.TheVariants as misses
-use Rattle.at_value.specs.declared.reply.Path as path
 use Rattle.at_value.specs.declared.reply.Path.TheVariants as paths
-use Rattle.at_line.specs.declared.line.Line.{Line}
-use Rattle.at_line.specs.declared.line.LineOp as line_op
+use Rattle.at_line.specs.Types.{Line, LineOp, What}
 use Rattle.at_line.specs.declared.line.LineOp.TheVariants as line_ops
-use Rattle.at_line.specs.declared.line.What as what
 use Rattle.at_line.specs.declared.line.What.TheVariants as whats
 
 -- One way for all
 
-abbrev pub is_locked : path.Path → Bool
+abbrev pub is_locked : Path → Bool
 is_locked paths.Locked = true
 is_locked paths.Fast = false
 is_locked (paths.Slow m) = false
 
-abbrev pub IsLocked : what.What → Type 0
+abbrev pub IsLocked : What → Type 0
 IsLocked (whats.Did place way operation reply) = IsTrue (is_locked way)
 IsLocked (whats.Local local) = Unit {0}
 
@@ -32,7 +28,7 @@ AreLocked lines = All (λ (line : Line). IsLocked line.what) lines
 -- The ways with lock-free reads and writes
 
 -- the object has its values in a dictionary
-abbrev pub is_dictionary : miss.Miss → Bool
+abbrev pub is_dictionary : Miss → Bool
 is_dictionary (misses.Untagged c) = false
 is_dictionary (misses.Unlike e) = false
 is_dictionary (misses.Writing e s) = false
@@ -43,7 +39,7 @@ is_dictionary (misses.Keyless c n) = false
 is_dictionary (misses.Moved w first second) = false
 
 -- the class has no key of the name
-abbrev pub is_keyless : miss.Miss → Bool
+abbrev pub is_keyless : Miss → Bool
 is_keyless (misses.Untagged c) = false
 is_keyless (misses.Unlike e) = false
 is_keyless (misses.Writing e s) = false
@@ -54,7 +50,7 @@ is_keyless (misses.Keyless c n) = true
 is_keyless (misses.Moved w first second) = false
 
 -- the object was being written, or a word was changed meanwhile
-abbrev pub is_odd_or_moved : miss.Miss → Bool
+abbrev pub is_odd_or_moved : Miss → Bool
 is_odd_or_moved (misses.Untagged c) = false
 is_odd_or_moved (misses.Unlike e) = false
 is_odd_or_moved (misses.Writing e s) = false
@@ -65,7 +61,7 @@ is_odd_or_moved (misses.Keyless c n) = false
 is_odd_or_moved (misses.Moved w first second) = true
 
 -- whether an operation has a fast way
-abbrev pub has_fast_way : op.Op → Bool
+abbrev pub has_fast_way : Op → Bool
 has_fast_way (ops.NewClass c bases) = false
 has_fast_way (ops.TypeSet c n v) = false
 has_fast_way (ops.TypeDel c n) = false
@@ -86,7 +82,7 @@ has_fast_way (ops.Mro c) = false
 -- objects whose values stand under its keys have no such attribute: so a read and a deletion go on. The look-up of a
 -- special method, `C.x` and `o.__class__` read no values of an object, in a dictionary or not, and the last of them no tag
 -- and no cache entry.
-abbrev pub can_miss : op.Op → miss.Miss → Bool
+abbrev pub can_miss : Op → Miss → Bool
 can_miss (ops.NewClass c bases) m = false
 can_miss (ops.TypeSet c n v) m = false
 can_miss (ops.TypeDel c n) m = false
@@ -104,13 +100,13 @@ can_miss (ops.ClassOf o) m = is_odd_or_moved m
 can_miss (ops.Mro c) m = false
 
 -- an operation that has a fast way goes it, or the slow one after a miss; each other goes the locked way
-abbrev pub is_shared_way : op.Op → path.Path → Bool
+abbrev pub is_shared_way : Op → Path → Bool
 is_shared_way o paths.Locked = not (has_fast_way o)
 is_shared_way o paths.Fast = has_fast_way o
 is_shared_way o (paths.Slow m) = can_miss o m
 
 -- the ways of lines once there are lock-free reads and writes; the begin and the end of a section go the locked way
-abbrev pub is_way_of_line : line_op.LineOp → path.Path → Bool
+abbrev pub is_way_of_line : LineOp → Path → Bool
 is_way_of_line (line_ops.Of o) way = is_shared_way o way
 is_way_of_line (line_ops.Begin first second) way = is_locked way
 is_way_of_line line_ops.Finish way = is_locked way
@@ -119,10 +115,10 @@ is_way_of_line line_ops.Finish way = is_locked way
 
 -- Chosen here: as long as nothing is read or written without a lock, each operation goes the locked way. From then on
 -- this is `is_way_of_line`.
-abbrev pub is_allowed_way : line_op.LineOp → path.Path → Bool
+abbrev pub is_allowed_way : LineOp → Path → Bool
 is_allowed_way operation way = is_locked way
 
-abbrev pub IsPathAllowed : what.What → Type 0
+abbrev pub IsPathAllowed : What → Type 0
 IsPathAllowed (whats.Did place way operation reply) = IsTrue (is_allowed_way operation way)
 IsPathAllowed (whats.Local local) = Unit {0}
 

@@ -8,11 +8,27 @@ ghost use Rattle.at_line.specs.Legal.{IsLinearized, AreWritesTrue, AreReadsTrue,
 ghost use Rattle.at_line.specs.Paths.{AreLocked, ArePathsAllowed, is_way_of_line};
 ghost use Rattle.at_line.specs.declared.line.Line.{Line};
 ghost use Rattle.at_line.specs.Kept.{IsKept};
-ghost use Rattle.at_line.specs.KeptExamples.{opening_history, other_written, other_written_history, written_once_ended, written_at_begin, written_at_begin_history, suspended_inside, suspended_inside_history, two_sections, owner_written, other_class_set, class_set_history, classes_written, classes_written_history, value_written, value_written_history, end_alone, object_written, object_written_history, dictionary_written, dictionary_written_history, second_written, written_past_other_lines, named_meanwhile, named_meanwhile_history, object_deleted, deleted_history, dictionary_deleted, class_set, dictionary_taken, dictionary_given, inner_written, outer_written};
-ghost use Rattle.at_line.specs.LineExamples.{example_limits, legal_lines, legal_history, place_twice, place_left_out, other_object_made, refused_write_done, refused_write_history, read_past_the_end, begin_past_the_end, end_past_the_end, reply_of_the_place_before, suspended_in_main, suspended_in_finally, place_falls, write_at_a_place_read, thread_before_main, last_thread_before_main, finally_before_thread, finally_before_main, full_too_early, full_past_the_end, worn_too_early, worn_too_far, read_without_locks, ways_there, ways_not_there};
+ghost use Rattle.at_line.specs.KeptExamples.{opening_history, other_written, other_written_history, written_once_ended};
+ghost use Rattle.at_line.specs.KeptExamples.{written_at_begin, written_at_begin_history, suspended_inside};
+ghost use Rattle.at_line.specs.KeptExamples.{suspended_inside_history, two_sections, owner_written, other_class_set};
+ghost use Rattle.at_line.specs.KeptExamples.{class_set_history, classes_written, classes_written_history};
+ghost use Rattle.at_line.specs.KeptExamples.{value_written, value_written_history, end_alone, object_written};
+ghost use Rattle.at_line.specs.KeptExamples.{object_written_history, dictionary_written, dictionary_written_history};
+ghost use Rattle.at_line.specs.KeptExamples.{second_written, written_past_other_lines, named_meanwhile};
+ghost use Rattle.at_line.specs.KeptExamples.{named_meanwhile_history, object_deleted, deleted_history};
+ghost use Rattle.at_line.specs.KeptExamples.{dictionary_deleted, class_set, dictionary_taken, dictionary_given};
+ghost use Rattle.at_line.specs.KeptExamples.{inner_written, outer_written};
+ghost use Rattle.at_line.specs.LineExamples.{example_limits, legal_lines, legal_history, place_twice, place_left_out};
+ghost use Rattle.at_line.specs.LineExamples.{other_object_made, refused_write_done, refused_write_history};
+ghost use Rattle.at_line.specs.LineExamples.{read_past_the_end, begin_past_the_end, end_past_the_end};
+ghost use Rattle.at_line.specs.LineExamples.{reply_of_the_place_before, suspended_in_main, suspended_in_finally};
+ghost use Rattle.at_line.specs.LineExamples.{place_falls, write_at_a_place_read, thread_before_main};
+ghost use Rattle.at_line.specs.LineExamples.{last_thread_before_main, finally_before_thread, finally_before_main};
+ghost use Rattle.at_line.specs.LineExamples.{full_too_early, full_past_the_end, worn_too_early, worn_too_far};
+ghost use Rattle.at_line.specs.LineExamples.{read_without_locks, ways_there, ways_not_there};
 
-/// A list of lines of `main`, three threads and `finally` that is linearized, whose operations all went the locked way. A
-/// section of a thread was suspended.
+/// A list of lines of `main`, three threads and `finally` that is linearized, whose operations all went the locked
+/// way. A section of a thread was suspended.
 pub fn legal_example()
     ensures linearized { IsLinearized opening example_limits legal_history legal_lines }
     ensures locked { AreLocked legal_lines }
@@ -24,8 +40,8 @@ pub fn lists_without_history()
     ensures left_out { (history : List op.Op) → ¬ IsHistory place_left_out history }
 {}
 
-/// Lists with a history, in which a write has a wrong reply, a read a wrong reply or place, the begin or the end of a section
-/// a wrong place, or the end of a section of `main` or `finally` a wrong reply.
+/// Lists with a history, in which a write has a wrong reply, a read a wrong reply or place, the begin or the end of a
+/// section a wrong place, or the end of a section of `main` or `finally` a wrong reply.
 pub fn lists_with_wrong_replies()
     ensures histories { IsHistory other_object_made legal_history
         × IsHistory refused_write_done refused_write_history
@@ -71,16 +87,16 @@ pub fn ways_of_operations()
     ensures not_there { list_any (λ w. is_way_of_line w.0 w.1) ways_not_there ≡ false }
 {}
 
-/// The ways of today, as long as no operation goes without locks: the locked one alone. These clauses go when the choice in
-/// `is_allowed_way` changes.
+/// The ways of today, as long as no operation goes without locks: the locked one alone. These clauses go when the
+/// choice in `is_allowed_way` changes.
 pub fn ways_of_today()
     ensures today { (lines : List Line) → ArePathsAllowed lines ↔ AreLocked lines }
     ensures fast { ¬ ArePathsAllowed read_without_locks }
 {}
 
-/// Lists with sections that are kept, while another thread writes another object, or an object whose section has ended, or
-/// begins at the place of the write, or was suspended; while a thread writes the object of its own section; and while no
-/// write touches a row of the section's objects, although one changes what an object of it reads.
+/// Lists with sections that are kept, while another thread writes another object, or an object whose section has
+/// ended, or begins at the place of the write, or was suspended; while a thread writes the object of its own section;
+/// and while no write touches a row of the section's objects, although one changes what an object of it reads.
 pub fn kept_examples()
     ensures histories { IsHistory other_written other_written_history
         × IsHistory written_once_ended other_written_history
@@ -104,9 +120,9 @@ pub fn kept_examples()
     ensures alone { IsKept opening other_written_history end_alone }
 {}
 
-/// Lists with a section that replied that it was kept, while another thread wrote its object: by each operation that touches
-/// rows, the object itself or the dictionary that it names, the second object of two, the object of the section that an end
-/// belongs to among two that nest.
+/// Lists with a section that replied that it was kept, while another thread wrote its object: by each operation that
+/// touches rows, the object itself or the dictionary that it names, the second object of two, the object of the
+/// section that an end belongs to among two that nest.
 pub fn lists_with_broken_sections()
     ensures histories { IsHistory object_written object_written_history
         × IsHistory dictionary_written dictionary_written_history

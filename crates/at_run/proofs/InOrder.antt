@@ -5,7 +5,7 @@ use Rattle.std.proofs.lemmas.List.Elements.{All-nil, All-cons, All-weaker}
 use Rattle.std.proofs.lemmas.List.Kept.{AllPairs-cons}
 use Rattle.at_line.specs.declared.line.Line.{Line}
 use Rattle.at_line.specs.declared.line.What as what
-use Rattle.at_line.specs.Lines.{main_thread, most_threads, finally_thread}
+use Rattle.at_line.specs.Lines.{main_thread, last_thread, finally_thread}
 use Rattle.at_line.specs.Legal.{RunsAfter}
 use Rattle.at_line.specs.Serial.{AreInOrder, AreByThread}
 use Rattle.at_thread.specs.Runs.{numbered_lines, lines_in_order, whole}
@@ -55,17 +55,17 @@ none_from : (thread : ℕ) → From thread []
 none_from thread = record { from = All-nil (IsFrom thread); order = λ i j d before within. absurd (omega arith) }
 
 -- the lines of `main`, of the threads and of `finally`, where there are no more threads than there may be
-whole_from : (count : ℕ) (told : ℕ → List what.What) → count ≤ most_threads → From main_thread (whole count told)
+whole_from : (count : ℕ) (told : ℕ → List what.What) → count ≤ last_thread → From main_thread (whole count told)
 whole_from count told few =
     let last : From finally_thread (numbered_lines finally_thread 1 (told finally_thread)) = subst (From finally_thread) (append-nil (numbered_lines finally_thread 1 (told finally_thread))) (from_numbered finally_thread 1 (told finally_thread) [] (omega arith) (none_from finally_thread)) in
     from_threads (suc count) main_thread told (numbered_lines finally_thread 1 (told finally_thread)) (omega arith) (from_lower (main_thread + suc count) finally_thread (numbered_lines finally_thread 1 (told finally_thread)) (omega arith) last)
 
 -- stand thread by thread
-pub whole_by_thread : (count : ℕ) (told : ℕ → List what.What) → count ≤ most_threads → AreByThread (whole count told)
+pub whole_by_thread : (count : ℕ) (told : ℕ → List what.What) → count ≤ last_thread → AreByThread (whole count told)
 whole_by_thread count told few = (whole_from count told few).order
 
 -- in the order in which the threads run
-pub whole_in_order : (count : ℕ) (told : ℕ → List what.What) → count ≤ most_threads → AreInOrder (whole count told)
+pub whole_in_order : (count : ℕ) (told : ℕ → List what.What) → count ≤ last_thread → AreInOrder (whole count told)
 whole_in_order count told few i j d before within =
     let all = whole_from count told few in
     let first : Line = get_or (whole count told) i d in

@@ -11,7 +11,8 @@ use Rattle.at_line.specs.declared.line.Local.TheVariants as locals
 use Rattle.at_line.specs.declared.line.What as what
 use Rattle.at_line.specs.declared.line.What.TheVariants as whats
 use Rattle.at_line.specs.Legal.{IsKeptAlone, IsLimitMet}
-use Rattle.at_line.specs.Lines.{main_thread, most_threads, what_of, is_write_reply, write_in, writes, write_count}
+use Rattle.at_script.specs.Limits.{most_threads}
+use Rattle.at_line.specs.Lines.{main_thread, what_of, is_write_reply, write_in, writes, write_count}
 use Rattle.at_line.specs.Kept.{whats_of_thread}
 use Rattle.at_line.specs.Paths.{IsLocked, IsPathAllowed}
 use Rattle.at_line.specs.Serial.{NamesNoLimit, AreInOrder, AreByThread}

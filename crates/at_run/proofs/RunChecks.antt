@@ -8,7 +8,7 @@ use Rattle.at_line.specs.declared.line.Line.{Line}
 use Rattle.at_line.specs.declared.line.What as what
 use Rattle.at_line.specs.Lines.{main_thread}
 use Rattle.at_line.specs.Kept.{whats_of_thread}
-use Rattle.at_line.specs.LineExamples.{begins, does, makes_class, gets_five, gets_six, sets_five, sets_six, seven, eight}
+use Rattle.at_line.specs.LineExamples.{begins, does, makes_class, gets_five, gets_six, sets_five, sets_six, gives_seven, gives_eight}
 use Rattle.at_line.specs.KeptExamples.{ends_kept}
 use Rattle.at_script.specs.declared.stmt.Stmt as stmt
 use Rattle.at_thread.specs.Execution.{Variables, ThreadState, start}
@@ -47,13 +47,13 @@ pub first_runs : Executes example_script first_block bound (first_whats 3 replie
 first_runs = record { end = ended_with both_bound 5; runs = (refl, 6, (refl, refl, (refl, refl, (refl, refl, (refl, refl, (refl, refl)))))); leaves = refl }
 
 -- its last read finds what the second thread has written
-pub first_runs_beside : Executes example_script first_block bound (first_whats 4 eight) both_bound
+pub first_runs_beside : Executes example_script first_block bound (first_whats 4 gives_eight) both_bound
 first_runs_beside = record { end = ended_with both_bound 5; runs = (refl, 6, (refl, refl, (refl, refl, (refl, refl, (refl, refl, (refl, refl)))))); leaves = refl }
 
 pub second_runs : Executes example_script second_block bound (does 4 sets_six replies.Done ∷ says_unbound 1 ∷ []) bound
 second_runs = record { end = ended_with bound 2; runs = (refl, 3, (refl, refl, (refl, (refl, refl)))); leaves = refl }
 
-pub last_runs : Executes example_script last_block bound (does 4 gets_five seven ∷ []) bound
+pub last_runs : Executes example_script last_block bound (does 4 gets_five gives_seven ∷ []) bound
 last_runs = record { end = ended_with bound 1; runs = (refl, 2, (refl, refl, (refl, refl))); leaves = refl }
 
 -- where `main` has these lines, the variables of the others begin so

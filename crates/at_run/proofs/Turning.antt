@@ -2,21 +2,19 @@
 use Rattle.std.proofs.Common.{◌≡◌, ◌∙◌, refl, sym, ap, subst, ℕ, suc, ◌+◌, ◌*◌, ◌^◌, ◌<◌, ◌≤◌, arith, Bool, true, false, List, [], ◌∷◌, ◌++◌, length, None, if◌then◌else◌, append-nil, length-append}
 use Rattle.std.specs.Prelude.{All}
 use Rattle.std.proofs.lemmas.List.Elements.{All-nil, All-cons, All-head, All-tail, All-push, All-weaker}
-use Rattle.at_value.specs.declared.operation.Op as op
+use Rattle.at_value.specs.Types.{Op}
 use Rattle.at_model.specs.declared.last.Final as final
-use Rattle.at_line.specs.declared.line.Line.{Line}
+use Rattle.at_line.specs.Types.{Line, Local, What}
 use Rattle.at_line.specs.declared.line.LineOp.TheVariants as line_ops
 use Rattle.at_line.specs.declared.line.LineReply.TheVariants as line_replies
-use Rattle.at_line.specs.declared.line.Local as local
 use Rattle.at_line.specs.declared.line.Local.TheVariants as locals
-use Rattle.at_line.specs.declared.line.What as what
 use Rattle.at_line.specs.declared.line.What.TheVariants as whats
 use Rattle.at_model.specs.World.{World}
 use Rattle.at_model.specs.Step.{step, is_write}
 use Rattle.at_model.specs.History.{replay}
 use Rattle.at_line.specs.Serial.{GoesOn, Adds, IsSerial, NamesNoLimit}
 use Rattle.at_model.specs.Final.{final_of}
-use Rattle.at_world.specs.Plain.{PlainState, stepped, counted}
+use Rattle.at_world.specs.Plain.{PlainState, stepped, place_after_write}
 use Rattle.at_line.proofs.Serials.{adds_weaker}
 use Rattle.at_model.proofs.OnlyWrites.{step-left}
 use Rattle.at_script.specs.Parts.{ScriptParts}
@@ -33,25 +31,25 @@ use Rattle.at_run.specs.Opening.{opening_of}
 use Rattle.at_run.specs.PlainRun.{IsUndisturbed, IsPlainRun}
 use Rattle.at_run.specs.Turns.{IsPlain, Tells, IsWorldOf, Leading}
 
-replay_more : (opened : World) (history : List op.Op) (o : op.Op) → replay opened (history ++ o ∷ []) ≡ (step (replay opened history) o).world
+replay_more : (opened : World) (history : List Op) (o : Op) → replay opened (history ++ o ∷ []) ≡ (step (replay opened history) o).world
 replay_more opened [] o = refl
 replay_more opened (first ∷ history) o = replay_more (step opened first).world history o
 
 module _ (opened : World) where
   -- a line, added to a history
-  record Added (v : PlainState) (history : List op.Op) (l : what.What) : Type 0 where
-    pub longer : List op.Op
+  record Added (v : PlainState) (history : List Op) (l : What) : Type 0 where
+    pub longer : List Op
     pub world : IsWorldOf opened v longer
     pub adds : Adds opened (λ now. now ≡ longer) history l
     pub by_one : length longer ≤ suc (length history)
 
-  module _ (v : PlainState) (history : List op.Op) (o : op.Op) (became : v ≡ stepped (record { world = replay opened history; place = length history }) o) (room : length history + 1 < 2 ^ 64) where
-    abbrev goes : Bool → List op.Op → ℕ → Type 0
+  module _ (v : PlainState) (history : List Op) (o : Op) (became : v ≡ stepped (record { world = replay opened history; place = length history }) o) (room : length history + 1 < 2 ^ 64) where
+    abbrev goes : Bool → List Op → ℕ → Type 0
     goes b longer place = GoesOn (λ now. now ≡ longer) b history place o
 
     -- the history after the operation
     record Gone (place : ℕ) : Type 0 where
-      pub longer : List op.Op
+      pub longer : List Op
       pub world : IsWorldOf opened v longer
       pub goes_on : goes (is_write (replay opened history) o) longer place
       pub by_one : length longer ≤ suc (length history)
@@ -59,8 +57,8 @@ module _ (opened : World) where
     gone : (place : ℕ) (b : Bool) → is_write (replay opened history) o ≡ b → place ≡ v.place → Gone place
     gone place true writes at =
         let one : length (history ++ o ∷ []) ≡ length history + 1 = length-append history (o ∷ []) in
-        let counts : v.place ≡ counted (length history) = ap (λ (s : PlainState). s.place) became ∙ ap (λ (b : Bool). if b then counted (length history) else length history) writes in
-        let next : counted (length history) ≡ suc (length history) = omega arith in
+        let counts : v.place ≡ place_after_write (length history) = ap (λ (s : PlainState). s.place) became ∙ ap (λ (b : Bool). if b then place_after_write (length history) else length history) writes in
+        let next : place_after_write (length history) ≡ suc (length history) = omega arith in
         record {
           longer = history ++ o ∷ [];
           world = (ap (λ (s : PlainState). s.world) became ∙ sym (replay_more opened history o), omega arith);
@@ -68,7 +66,7 @@ module _ (opened : World) where
           by_one = omega arith;
         }
     gone place false reads at =
-        let counts : v.place ≡ length history = ap (λ (s : PlainState). s.place) became ∙ ap (λ (b : Bool). if b then counted (length history) else length history) reads in
+        let counts : v.place ≡ length history = ap (λ (s : PlainState). s.place) became ∙ ap (λ (b : Bool). if b then place_after_write (length history) else length history) reads in
         record {
           longer = history;
           world = (ap (λ (s : PlainState). s.world) became ∙ step-left (replay opened history) o reads, counts);
@@ -77,10 +75,10 @@ module _ (opened : World) where
         }
 
   -- the begin and the end of a section stand at the end of the history
-  unmoved : (w v : PlainState) (history : List op.Op) (place : ℕ) → (v ≡ w) × (place ≡ w.place) → IsWorldOf opened w history → IsWorldOf opened v history × (place ≡ length history)
+  unmoved : (w v : PlainState) (history : List Op) (place : ℕ) → (v ≡ w) × (place ≡ w.place) → IsWorldOf opened w history → IsWorldOf opened v history × (place ≡ length history)
   unmoved w v history place told stands = (subst (λ (s : PlainState). IsWorldOf opened s history) (sym told.0) stands, told.1 ∙ stands.1)
 
-  told_adds : (w v : PlainState) (history : List op.Op) (l : what.What) → Tells w l v → IsWorldOf opened w history → length history + 1 < 2 ^ 64 → Added v history l
+  told_adds : (w v : PlainState) (history : List Op) (l : What) → Tells w l v → IsWorldOf opened w history → length history + 1 < 2 ^ 64 → Added v history l
   told_adds w v history (whats.Did place path (line_ops.Of o) r) told stands room =
       let same : w ≡ record { world = replay opened history; place = length history } = ap (λ (x : World). record { world = x; place = w.place }) stands.0 ∙ ap (λ (n : ℕ). record { world = replay opened history; place = n }) stands.1 in
       let g = gone v history o (told.1 ∙ ap (λ (s : PlainState). stepped s o) same) room place.0 (is_write (replay opened history) o) refl told.2 in
@@ -95,16 +93,16 @@ module _ (opened : World) where
   told_adds w v history (whats.Local l) told stands room = record { longer = history; world = subst (λ (s : PlainState). IsWorldOf opened s history) (sym told) stands; adds = refl; by_one = omega arith }
 
   -- one more line
-  serial_more : (history : List op.Op) (says : List what.What) (middle : List op.Op) (l : what.What) (last : List op.Op) → IsSerial opened history says middle → Adds opened (λ now. now ≡ last) middle l → IsSerial opened history (says ++ l ∷ []) last
-  serial_more history [] middle l last s a = subst (λ (h : List op.Op). Adds opened (λ now. now ≡ last) h l) (sym s) a
+  serial_more : (history : List Op) (says : List What) (middle : List Op) (l : What) (last : List Op) → IsSerial opened history says middle → Adds opened (λ now. now ≡ last) middle l → IsSerial opened history (says ++ l ∷ []) last
+  serial_more history [] middle l last s a = subst (λ (h : List Op). Adds opened (λ now. now ≡ last) h l) (sym s) a
   serial_more history (w ∷ says) middle l last s a =
       adds_weaker opened (λ longer. IsSerial opened longer says middle) (λ longer. IsSerial opened longer (says ++ l ∷ []) last) history w (λ longer k. serial_more longer says middle l last k a) s
 
 -- a turn without a line
-pub leading_silent : (p : ScriptParts) (s : execution.ThreadState) (says : List what.What) (t u : execution.ThreadState) (w v : PlainState) → Leading p s says t w → Makes (next_of p t) [] u → v ≡ w → Leading p s says u v
+pub leading_silent : (p : ScriptParts) (s : execution.ThreadState) (says : List What) (t u : execution.ThreadState) (w v : PlainState) → Leading p s says t w → Makes (next_of p t) [] u → v ≡ w → Leading p s says u v
 leading_silent p s says t u w v h makes same = record {
   steps = suc h.steps;
-  leads = subst (λ (ws : List what.What). Leads p (suc h.steps) s ws u) (append-nil says) (leads_more p h.steps s says t [] u h.leads makes);
+  leads = subst (λ (ws : List What). Leads p (suc h.steps) s ws u) (append-nil says) (leads_more p h.steps s says t [] u h.leads makes);
   history = h.history;
   serial = h.serial;
   short = h.short;
@@ -113,7 +111,7 @@ leading_silent p s says t u w v h makes same = record {
 }
 
 -- a turn with a line
-pub leading_says : (p : ScriptParts) (s : execution.ThreadState) (says : List what.What) (t u : execution.ThreadState) (w v : PlainState) (l : what.What) → Leading p s says t w → Makes (next_of p t) (l ∷ []) u → Tells w l v → IsPlain l → length says + 1 < 2 ^ 64
+pub leading_says : (p : ScriptParts) (s : execution.ThreadState) (says : List What) (t u : execution.ThreadState) (w v : PlainState) (l : What) → Leading p s says t w → Makes (next_of p t) (l ∷ []) u → Tells w l v → IsPlain l → length says + 1 < 2 ^ 64
     → Leading p s (says ++ l ∷ []) u v
 leading_says p s says t u w v l h makes tells plain room =
     let short = h.short in
@@ -131,7 +129,7 @@ leading_says p s says t u w v l h makes tells plain room =
     }
 
 -- what a thread says by itself is plain
-pub own_plain : (l : local.Local) → NamesNoLimit (whats.Local l) → IsPlain (whats.Local l)
+pub own_plain : (l : Local) → NamesNoLimit (whats.Local l) → IsPlain (whats.Local l)
 own_plain locals.Depth h = (tt, tt)
 own_plain locals.Budget h = (tt, tt)
 own_plain locals.Kind h = (tt, tt)
@@ -165,21 +163,21 @@ few_lines p count s h =
     spare_most (f ∷ fs) = omega arith
 
 -- what is so of what lines say, is so of the lines
-pub all_numbered : (P : what.What → Type 0) (thread from : ℕ) (says : List what.What) → All P says → All (λ (line : Line). P line.what) (numbered_lines thread from says)
+pub all_numbered : (P : What → Type 0) (thread from : ℕ) (says : List What) → All P says → All (λ (line : Line). P line.what) (numbered_lines thread from says)
 all_numbered P thread from [] all = All-nil (λ (line : Line). P line.what)
 all_numbered P thread from (w ∷ says) all =
     All-cons (λ (line : Line). P line.what) (record { what = w; number = from; thread = thread }) (numbered_lines thread (suc from) says) (All-head P w says all) (all_numbered P thread (suc from) says (All-tail P w says all))
 
 -- Lines that run the block `main` to its end, on the data model from the opening world on, are the plain run of a script
 -- without other blocks.
-pub plain_run : (p : ScriptParts) (says : List what.What) (end : execution.ThreadState) (w : PlainState) (last : final.Final) → p.threads ≡ [] → p.finally ≡ None → next_of p end ≡ execution.ended → Leading p (start p.main (unbound p)) says end w → last ≡ final_of w.world → IsPlainRun p (numbered_lines 0 1 says) last
+pub plain_run : (p : ScriptParts) (says : List What) (end : execution.ThreadState) (w : PlainState) (last : final.Final) → p.threads ≡ [] → p.finally ≡ None → next_of p end ≡ execution.ended → Leading p (start p.main (unbound p)) says end w → last ≡ final_of w.world → IsPlainRun p (numbered_lines 0 1 says) last
 plain_run p says end w last threads finally ends h is =
     let plain = all_numbered IsPlain 0 1 says h.plain in
     record {
       serial_run = record {
         runs = alone_run p says end threads finally (ends, h.steps, h.leads);
         history = h.history;
-        serial = subst (λ (ws : List what.What). IsSerial (opening_of p) [] ws h.history) (sym (whats_of_numbered 0 1 says)) h.serial;
+        serial = subst (λ (ws : List What). IsSerial (opening_of p) [] ws h.history) (sym (whats_of_numbered 0 1 says)) h.serial;
         undisturbed = All-weaker (λ (line : Line). IsPlain line.what) (λ (line : Line). IsUndisturbed line.what) (λ line is. is.0) (numbered_lines 0 1 says) plain;
         ends = is ∙ ap final_of h.world.0;
       };

@@ -5,19 +5,14 @@ use Rattle.std.proofs.lemmas.Bool.{false≢true}
 use Rattle.std.proofs.lemmas.List.Elements.{All-nil, All-cons, All-head, All-tail}
 use Rattle.std.proofs.lemmas.List.{map-append}
 use Rattle.std.proofs.lemmas.Option.{slice_get-get_or}
-use Rattle.at_value.specs.declared.operation.Op as op
+use Rattle.at_value.specs.Types.{Op, Path}
 use Rattle.at_value.specs.declared.reply.Reply.TheVariants as replies
 use Rattle.at_value.specs.declared.reply.Place.{Place}
-use Rattle.at_value.specs.declared.reply.Path as path
 use Rattle.at_value.specs.declared.reply.Path.TheVariants as paths
-use Rattle.at_line.specs.declared.line.Line.{Line}
-use Rattle.at_line.specs.declared.line.LineOp as line_op
+use Rattle.at_line.specs.Types.{Line, LineOp, LineReply, Local, What}
 use Rattle.at_line.specs.declared.line.LineOp.TheVariants as line_ops
-use Rattle.at_line.specs.declared.line.LineReply as line_reply
 use Rattle.at_line.specs.declared.line.LineReply.TheVariants as line_replies
-use Rattle.at_line.specs.declared.line.Local as local
 use Rattle.at_line.specs.declared.line.Local.TheVariants as locals
-use Rattle.at_line.specs.declared.line.What as what
 use Rattle.at_line.specs.declared.line.What.TheVariants as whats
 use Rattle.at_line.specs.Lines.{main_thread, finally_thread, what_of}
 use Rattle.at_line.specs.Kept.{whats_of_thread}
@@ -28,8 +23,8 @@ use Rattle.at_model.specs.Step.{step, is_write}
 use Rattle.at_model.specs.History.{replay}
 use Rattle.at_model.specs.Final.{final_of}
 use Rattle.at_line.specs.Serial.{GoesOn, Adds, IsSerial}
-use Rattle.at_script.specs.declared.stmt.Stmt as stmt
-use Rattle.at_thread.specs.declared.next.ReplyUse as used
+use Rattle.at_script.specs.Types.{Stmt}
+use Rattle.at_thread.specs.Types.{ReplyUse}
 use Rattle.at_script.specs.Parts.{ScriptParts}
 use Rattle.at_thread.specs.Execution.{Variables, ThreadState, Transition, ended, silent, checkpoints, says, asks, taken, next_of, start}
 use Rattle.at_thread.specs.Executions.{can_reply, stands_for, Answers, Fits, Leads}
@@ -40,91 +35,91 @@ use Rattle.at_run.specs.PlainRun.{IsUndisturbed, under_locks, line_under_locks, 
 use Rattle.at_run.specs.Laws.{SerialRunsAreOne, PlainRunsAreOne}
 use Rattle.at_run.proofs.Serial.{serial_split}
 
-is_locked_way : (way : path.Path) → is_locked way ≡ true → way ≡ paths.Locked
+is_locked_way : (way : Path) → is_locked way ≡ true → way ≡ paths.Locked
 is_locked_way paths.Locked is = refl
 is_locked_way paths.Fast is = absurd (false≢true is)
 is_locked_way (paths.Slow m) is = absurd (false≢true is)
 
 module _ (opened : World) where
   -- the history after an operation
-  abbrev next_history : List op.Op → line_op.LineOp → List op.Op
+  abbrev next_history : List Op → LineOp → List Op
   next_history history (line_ops.Of o) = if is_write (replay opened history) o then history ++ o ∷ [] else history
   next_history history o = history
 
   -- the place and the reply of an operation that is done at the end of a history
-  abbrev next_place : List op.Op → line_op.LineOp → ℕ
+  abbrev next_place : List Op → LineOp → ℕ
   next_place history (line_ops.Of o) = if is_write (replay opened history) o then suc (length history) else length history
   next_place history o = length history
 
-  abbrev next_reply : List op.Op → line_op.LineOp → line_reply.LineReply
+  abbrev next_reply : List Op → LineOp → LineReply
   next_reply history (line_ops.Of o) = line_replies.Of (step (replay opened history) o).reply
   next_reply history (line_ops.Begin a b) = line_replies.Of replies.Done
   next_reply history line_ops.Finish = line_replies.Kept
 
-  abbrev next_line : List op.Op → line_op.LineOp → what.What
+  abbrev next_line : List Op → LineOp → What
   next_line history o = whats.Did (record { 0 = next_place history o }) paths.Locked o (next_reply history o)
 
   -- What a line of an operation is, at the end of a history, and where it leads.
-  record Alone (on : List op.Op → Type 0) (goes : ThreadState → Type 0) (u : used.ReplyUse) (s : ThreadState) (history : List op.Op) (o : line_op.LineOp) (w : what.What) : Type 0 where
+  record Alone (on : List Op → Type 0) (goes : ThreadState → Type 0) (u : ReplyUse) (s : ThreadState) (history : List Op) (o : LineOp) (w : What) : Type 0 where
     pub line : under_locks w ≡ next_line history o
     pub rest : on (next_history history o)
     pub takes : goes (taken u (next_reply history o) s)
 
-  begin_replied : (a : ℕ) (b : Option ℕ) (r : line_reply.LineReply) → can_reply (line_ops.Begin a b) r ≡ true → r ≡ line_replies.Of replies.Done
+  begin_replied : (a : ℕ) (b : Option ℕ) (r : LineReply) → can_reply (line_ops.Begin a b) r ≡ true → r ≡ line_replies.Of replies.Done
   begin_replied a b (line_replies.Of replies.Done) h = refl
   begin_replied a b r h = absurd (false≢true h)
 
-  line_is : (place : Place) (n : ℕ) (p o : line_op.LineOp) (r q : line_reply.LineReply) → place.0 ≡ n → p ≡ o → r ≡ q → whats.Did place paths.Locked p r ≡ whats.Did (record { 0 = n }) paths.Locked o q
+  line_is : (place : Place) (n : ℕ) (p o : LineOp) (r q : LineReply) → place.0 ≡ n → p ≡ o → r ≡ q → whats.Did place paths.Locked p r ≡ whats.Did (record { 0 = n }) paths.Locked o q
   line_is place n p o r q at same replied =
       ap (λ (m : ℕ). whats.Did (record { 0 = m }) paths.Locked p r) at
-      ∙ (ap (λ (x : line_op.LineOp). whats.Did (record { 0 = n }) paths.Locked x r) same ∙ ap (λ (x : line_reply.LineReply). whats.Did (record { 0 = n }) paths.Locked o x) replied)
+      ∙ (ap (λ (x : LineOp). whats.Did (record { 0 = n }) paths.Locked x r) same ∙ ap (λ (x : LineReply). whats.Did (record { 0 = n }) paths.Locked o x) replied)
 
-  module _ (on : List op.Op → Type 0) (goes : ThreadState → Type 0) (u : used.ReplyUse) (s : ThreadState) (history : List op.Op) where
-    gone : (b : Bool) (o : op.Op) (place : ℕ) → GoesOn on b history place o → (place ≡ (if b then suc (length history) else length history)) × on (if b then history ++ o ∷ [] else history)
+  module _ (on : List Op → Type 0) (goes : ThreadState → Type 0) (u : ReplyUse) (s : ThreadState) (history : List Op) where
+    gone : (b : Bool) (o : Op) (place : ℕ) → GoesOn on b history place o → (place ≡ (if b then suc (length history) else length history)) × on (if b then history ++ o ∷ [] else history)
     gone true o place h = h
     gone false o place h = h
 
-    did_alone : (place : Place) (way : path.Path) (p o : line_op.LineOp) (r : line_reply.LineReply) → p ≡ o → Adds opened on history (whats.Did place way o r) → IsUndisturbed (whats.Did place way o r) → can_reply o r ≡ true → goes (taken u r s) → Alone on goes u s history o (whats.Did place way p r)
+    did_alone : (place : Place) (way : Path) (p o : LineOp) (r : LineReply) → p ≡ o → Adds opened on history (whats.Did place way o r) → IsUndisturbed (whats.Did place way o r) → can_reply o r ≡ true → goes (taken u r s) → Alone on goes u s history o (whats.Did place way p r)
     did_alone place way p (line_ops.Of o) r same adds plain can takes =
         let g = gone (is_write (replay opened history) o) o place.0 adds.1 in
         record {
           line = line_is place (next_place history (line_ops.Of o)) p (line_ops.Of o) r (next_reply history (line_ops.Of o)) g.0 same adds.0;
           rest = g.1;
-          takes = subst (λ (q : line_reply.LineReply). goes (taken u q s)) adds.0 takes;
+          takes = subst (λ (q : LineReply). goes (taken u q s)) adds.0 takes;
         }
     did_alone place way p (line_ops.Begin a b) r same adds plain can takes =
         let replied = begin_replied a b r can in
         record {
           line = line_is place (length history) p (line_ops.Begin a b) r (line_replies.Of replies.Done) adds.0 same replied;
           rest = adds.1;
-          takes = subst (λ (q : line_reply.LineReply). goes (taken u q s)) replied takes;
+          takes = subst (λ (q : LineReply). goes (taken u q s)) replied takes;
         }
     did_alone place way p line_ops.Finish r same adds plain can takes = record {
       line = line_is place (length history) p line_ops.Finish r line_replies.Kept adds.0 same plain;
       rest = adds.1;
-      takes = subst (λ (q : line_reply.LineReply). goes (taken u q s)) plain takes;
+      takes = subst (λ (q : LineReply). goes (taken u q s)) plain takes;
     }
 
     -- no line stands in the place of an operation
-    none_stands : (o : line_op.LineOp) (l : local.Local) → stands_for o l ≡ true → IsUndisturbed (whats.Local l) → ⊥
+    none_stands : (o : LineOp) (l : Local) → stands_for o l ≡ true → IsUndisturbed (whats.Local l) → ⊥
     none_stands o (locals.Full place) e h = h
     none_stands o (locals.Worn sequence) e h = h
     none_stands (line_ops.Of o) l e h = cc
     none_stands (line_ops.Begin a b) l e h = cc
     none_stands line_ops.Finish l e h = cc
 
-    line_alone : (o : line_op.LineOp) (w : what.What) → Answers goes o u s w → Adds opened on history w → IsUndisturbed w → Alone on goes u s history o w
+    line_alone : (o : LineOp) (w : What) → Answers goes o u s w → Adds opened on history w → IsUndisturbed w → Alone on goes u s history o w
     line_alone o (whats.Did place way p r) answers adds plain =
-        did_alone place way p o r answers.0 (subst (λ (x : line_op.LineOp). Adds opened on history (whats.Did place way x r)) answers.0 adds) (subst (λ (x : line_op.LineOp). IsUndisturbed (whats.Did place way x r)) answers.0 plain) answers.1 answers.2
+        did_alone place way p o r answers.0 (subst (λ (x : LineOp). Adds opened on history (whats.Did place way x r)) answers.0 adds) (subst (λ (x : LineOp). IsUndisturbed (whats.Did place way x r)) answers.0 plain) answers.1 answers.2
     line_alone o (whats.Local l) answers adds plain = absurd (none_stands o l answers.0 plain)
 
   -- two lists of lines are the same, paths aside, and so are the histories and the states to which they lead
-  abbrev Same : List what.What → List what.What → List op.Op → List op.Op → ThreadState → ThreadState → Type 0
+  abbrev Same : List What → List What → List Op → List Op → ThreadState → ThreadState → Type 0
   Same first second one other t u = (map under_locks first ≡ map under_locks second) × (one ≡ other) × (t ≡ u)
 
-  module _ (on off : ThreadState → List what.What → Type 0) (one other : List op.Op) (t u : ThreadState)
-      (same : (s : ThreadState) (first second : List what.What) (history : List op.Op) → on s first → off s second → IsSerial opened history first one → IsSerial opened history second other → All IsUndisturbed first → All IsUndisturbed second → Same first second one other t u) where
-    both : (next : Transition) (first second : List what.What) (history : List op.Op) → Fits on next first → Fits off next second → IsSerial opened history first one → IsSerial opened history second other → All IsUndisturbed first → All IsUndisturbed second → Same first second one other t u
+  module _ (on off : ThreadState → List What → Type 0) (one other : List Op) (t u : ThreadState)
+      (same : (s : ThreadState) (first second : List What) (history : List Op) → on s first → off s second → IsSerial opened history first one → IsSerial opened history second other → All IsUndisturbed first → All IsUndisturbed second → Same first second one other t u) where
+    both : (next : Transition) (first second : List What) (history : List Op) → Fits on next first → Fits off next second → IsSerial opened history first one → IsSerial opened history second other → All IsUndisturbed first → All IsUndisturbed second → Same first second one other t u
     both ended first second history f g a b x y = absurd f
     both (silent s) first second history f g a b x y = same s first second history f g a b x y
     both (checkpoints s) first second history f g a b x y = same s first second history f g a b x y
@@ -145,17 +140,17 @@ module _ (opened : World) where
         (ap (λ z. z ∷ map under_locks first) (m.line ∙ sym n.line) ∙ ap (λ rest. under_locks v ∷ rest) r.0, r.1, r.2)
 
   -- nothing leads on from a state that has ended
-  stays : (p : ScriptParts) (n : ℕ) (s : ThreadState) (lines : List what.What) (u : ThreadState) → next_of p s ≡ ended → Leads p n s lines u → (lines ≡ []) × (s ≡ u)
+  stays : (p : ScriptParts) (n : ℕ) (s : ThreadState) (lines : List What) (u : ThreadState) → next_of p s ≡ ended → Leads p n s lines u → (lines ≡ []) × (s ≡ u)
   stays p zero s lines u e l = l
   stays p (suc n) s lines u e l = absurd (subst (λ (next : Transition). Fits (λ x rest. Leads p n x rest u) next lines) e l)
 
-  nothing : (first second : List what.What) (history one other : List op.Op) → first ≡ [] → second ≡ [] → IsSerial opened history first one → IsSerial opened history second other → (map under_locks first ≡ map under_locks second) × (one ≡ other)
+  nothing : (first second : List What) (history one other : List Op) → first ≡ [] → second ≡ [] → IsSerial opened history first one → IsSerial opened history second other → (map under_locks first ≡ map under_locks second) × (one ≡ other)
   nothing first second history one other f g a b = (
     ap (map under_locks) (f ∙ sym g),
-    sym (subst (λ (ws : List what.What). IsSerial opened history ws one) f a) ∙ subst (λ (ws : List what.What). IsSerial opened history ws other) g b,
+    sym (subst (λ (ws : List What). IsSerial opened history ws one) f a) ∙ subst (λ (ws : List What). IsSerial opened history ws other) g b,
   )
 
-  same_leads : (p : ScriptParts) (n m : ℕ) (s : ThreadState) (first second : List what.What) (t u : ThreadState) (history one other : List op.Op) → next_of p t ≡ ended → next_of p u ≡ ended → Leads p n s first t → Leads p m s second u
+  same_leads : (p : ScriptParts) (n m : ℕ) (s : ThreadState) (first second : List What) (t u : ThreadState) (history one other : List Op) → next_of p t ≡ ended → next_of p u ≡ ended → Leads p n s first t → Leads p m s second u
       → IsSerial opened history first one → IsSerial opened history second other → All IsUndisturbed first → All IsUndisturbed second → Same first second one other t u
   same_leads p zero m s first second t u history one other et eu l k a b x y =
       let z = stays p m s second u (ap (next_of p) l.1 ∙ et) k in
@@ -172,12 +167,12 @@ module _ (opened : World) where
 -- One block
 
 -- executions of a block from one history are the same, paths aside, and so are the histories to which they lead
-abbrev IsBlockSame : World → List what.What → List what.What → Type 0
+abbrev IsBlockSame : World → List What → List What → Type 0
 IsBlockSame opened first second =
-    (history one other : List op.Op) → IsSerial opened history first one → IsSerial opened history second other → (map under_locks first ≡ map under_locks second) × (one ≡ other)
+    (history one other : List Op) → IsSerial opened history first one → IsSerial opened history second other → (map under_locks first ≡ map under_locks second) × (one ≡ other)
 
-module _ (s : ScriptParts) (block : List stmt.Stmt) (before first_after second_after : Variables) (first second : List what.What) (a : Executes s block before first first_after) (b : Executes s block before second second_after)
-    (x : All IsUndisturbed first) (y : All IsUndisturbed second) (opened : World) (history one other : List op.Op) (f : IsSerial opened history first one) (g : IsSerial opened history second other) where
+module _ (s : ScriptParts) (block : List Stmt) (before first_after second_after : Variables) (first second : List What) (a : Executes s block before first first_after) (b : Executes s block before second second_after)
+    (x : All IsUndisturbed first) (y : All IsUndisturbed second) (opened : World) (history one other : List Op) (f : IsSerial opened history first one) (g : IsSerial opened history second other) where
   all_same : Same opened first second one other a.end b.end
   all_same = same_leads opened s a.runs.1 b.runs.1 (start block before) first second a.end b.end history one other a.runs.0 b.runs.0 a.runs.2 b.runs.2 f g x y
 
@@ -191,42 +186,42 @@ module _ (s : ScriptParts) (block : List stmt.Stmt) (before first_after second_a
 -- Blocks in order
 
 -- lines of a thread that are the same, paths aside, have the same numbers
-numbered_same : (thread from : ℕ) (first second : List what.What) → map under_locks first ≡ map under_locks second → map line_under_locks (numbered_lines thread from first) ≡ map line_under_locks (numbered_lines thread from second)
+numbered_same : (thread from : ℕ) (first second : List What) → map under_locks first ≡ map under_locks second → map line_under_locks (numbered_lines thread from first) ≡ map line_under_locks (numbered_lines thread from second)
 numbered_same thread from [] [] same = refl
 numbered_same thread from [] (v ∷ second) same = absurd cc
 numbered_same thread from (w ∷ first) [] same = absurd cc
 numbered_same thread from (w ∷ first) (v ∷ second) same =
     let heads : under_locks w ≡ under_locks v = cc in
     let rest : map under_locks first ≡ map under_locks second = cc in
-    ap (λ (x : what.What). record { what = x; number = from; thread = thread } ∷ map line_under_locks (numbered_lines thread (suc from) first)) heads
+    ap (λ (x : What). record { what = x; number = from; thread = thread } ∷ map line_under_locks (numbered_lines thread (suc from) first)) heads
     ∙ ap (λ ls. record { what = under_locks v; number = from; thread = thread } ∷ ls) (numbered_same thread (suc from) first second rest)
 
-abbrev says_in_order : ℕ → ℕ → (ℕ → List what.What) → List what.What
+abbrev says_in_order : ℕ → ℕ → (ℕ → List What) → List What
 says_in_order zero thread told = []
 says_in_order (suc count) thread told = told thread ++ says_in_order count (suc thread) told
 
-whats_in_order : (count thread : ℕ) (told : ℕ → List what.What) → map what_of (lines_in_order count thread told) ≡ says_in_order count thread told
+whats_in_order : (count thread : ℕ) (told : ℕ → List What) → map what_of (lines_in_order count thread told) ≡ says_in_order count thread told
 whats_in_order zero thread told = refl
 whats_in_order (suc count) thread told =
     map-append what_of (numbered_lines thread 1 (told thread)) (lines_in_order count (suc thread) told)
     ∙ (ap (λ ws. ws ++ map what_of (lines_in_order count (suc thread) told)) (whats_of_numbered thread 1 (told thread)) ∙ ap (λ ws. told thread ++ ws) (whats_in_order count (suc thread) told))
 
-whats_of_whole : (count : ℕ) (told : ℕ → List what.What) → map what_of (whole count told) ≡ told main_thread ++ (says_in_order count 1 told ++ told finally_thread)
+whats_of_whole : (count : ℕ) (told : ℕ → List What) → map what_of (whole count told) ≡ told main_thread ++ (says_in_order count 1 told ++ told finally_thread)
 whats_of_whole count told =
     map-append what_of (lines_in_order (suc count) main_thread told) (numbered_lines finally_thread 1 (told finally_thread))
     ∙ (ap (λ ws. ws ++ map what_of (numbered_lines finally_thread 1 (told finally_thread))) (whats_in_order (suc count) main_thread told)
     ∙ (ap (λ ws. (told main_thread ++ says_in_order count 1 told) ++ ws) (whats_of_numbered finally_thread 1 (told finally_thread))
     ∙ append_assoc (told main_thread) (says_in_order count 1 told) (told finally_thread)))
 
-module _ (opened : World) (first second : ℕ → List what.What) (one other : List op.Op) (more_first more_second : List what.What) where
+module _ (opened : World) (first second : ℕ → List What) (one other : List Op) (more_first more_second : List What) where
   -- the lines of the threads are the same, and one history leads on from both
   record Threads (count thread : ℕ) : Type 0 where
     pub lines : map line_under_locks (lines_in_order count thread first) ≡ map line_under_locks (lines_in_order count thread second)
-    pub middle : List op.Op
+    pub middle : List Op
     pub on : IsSerial opened middle more_first one
     pub off : IsSerial opened middle more_second other
 
-  threads_same : (count thread : ℕ) (history : List op.Op) → ((t : ℕ) → thread ≤ t → t < thread + count → IsBlockSame opened (first t) (second t))
+  threads_same : (count thread : ℕ) (history : List Op) → ((t : ℕ) → thread ≤ t → t < thread + count → IsBlockSame opened (first t) (second t))
       → IsSerial opened history (says_in_order count thread first ++ more_first) one → IsSerial opened history (says_in_order count thread second ++ more_second) other → Threads count thread
   threads_same zero thread history each f g = record { lines = refl; middle = history; on = f; off = g }
   threads_same (suc count) thread history each f g =
@@ -245,7 +240,7 @@ module _ (opened : World) (first second : ℕ → List what.What) (one other : L
       }
 
 -- what is so of all lines is so of those of a thread
-of_thread : (P : what.What → Type 0) (thread : ℕ) (lines : List Line) → All (λ (line : Line). P line.what) lines → All P (whats_of_thread thread lines)
+of_thread : (P : What → Type 0) (thread : ℕ) (lines : List Line) → All (λ (line : Line). P line.what) lines → All P (whats_of_thread thread lines)
 of_thread P thread [] all = All-nil P
 of_thread P thread (line ∷ lines) all =
     let rest = of_thread P thread lines (All-tail (λ (l : Line). P l.what) line lines all) in
@@ -257,10 +252,10 @@ of_thread P thread (line ∷ lines) all =
 -- A whole run
 
 module _ (s : ScriptParts) (first second : List Line) (first_ends second_ends : final.Final) (a : IsSerialRun s first first_ends) (b : IsSerialRun s second second_ends) where
-  abbrev ws : ℕ → List what.What
+  abbrev ws : ℕ → List What
   ws thread = whats_of_thread thread first
 
-  abbrev vs : ℕ → List what.What
+  abbrev vs : ℕ → List What
   vs thread = whats_of_thread thread second
 
   abbrev opened : World
@@ -281,10 +276,10 @@ module _ (s : ScriptParts) (first second : List Line) (first_ends second_ends : 
   second_said : map what_of second ≡ vs main_thread ++ (says_in_order count 1 vs ++ vs finally_thread)
   second_said = ap (map what_of) b.runs.order ∙ whats_of_whole count vs
 
-  first_main : (middle : List op.Op) × IsSerial opened [] (ws main_thread) middle × IsSerial opened middle (says_in_order count 1 ws ++ ws finally_thread) a.history
+  first_main : (middle : List Op) × IsSerial opened [] (ws main_thread) middle × IsSerial opened middle (says_in_order count 1 ws ++ ws finally_thread) a.history
   first_main = serial_split opened (ws main_thread) (says_in_order count 1 ws ++ ws finally_thread) [] a.history (subst (λ said. IsSerial opened [] said a.history) first_said a.serial)
 
-  second_main : (middle : List op.Op) × IsSerial opened [] (vs main_thread) middle × IsSerial opened middle (says_in_order count 1 vs ++ vs finally_thread) b.history
+  second_main : (middle : List Op) × IsSerial opened [] (vs main_thread) middle × IsSerial opened middle (says_in_order count 1 vs ++ vs finally_thread) b.history
   second_main = serial_split opened (vs main_thread) (says_in_order count 1 vs ++ vs finally_thread) [] b.history (subst (λ said. IsSerial opened [] said b.history) second_said b.serial)
 
   main_same : (map under_locks (ws main_thread) ≡ map under_locks (vs main_thread)) × (first_main.0 ≡ second_main.0)
@@ -310,7 +305,7 @@ module _ (s : ScriptParts) (first second : List Line) (first_ends second_ends : 
   nothing_same : ws finally_thread ≡ [] → vs finally_thread ≡ [] → IsBlockSame opened (ws finally_thread) (vs finally_thread)
   nothing_same none other_none history one other f g = nothing opened (ws finally_thread) (vs finally_thread) history one other none other_none f g
 
-  finally_same : (block : Option (List stmt.Stmt)) → s.finally ≡ block → IsBlockSame opened (ws finally_thread) (vs finally_thread)
+  finally_same : (block : Option (List Stmt)) → s.finally ≡ block → IsBlockSame opened (ws finally_thread) (vs finally_thread)
   finally_same None is = nothing_same (a.runs.no_finally is) (b.runs.no_finally is)
   finally_same (Some block) is =
       let x = a.runs.finally block is in
@@ -346,15 +341,15 @@ serial_unique s first second first_ends second_ends a b = (
 )
 
 -- lines under locks are as they would be under locks
-as_they_are : (w : what.What) → IsLocked w → under_locks w ≡ w
-as_they_are (whats.Did place way o r) locked = ap (λ (p : path.Path). whats.Did place p o r) (sym (is_locked_way way locked))
+as_they_are : (w : What) → IsLocked w → under_locks w ≡ w
+as_they_are (whats.Did place way o r) locked = ap (λ (p : Path). whats.Did place p o r) (sym (is_locked_way way locked))
 as_they_are (whats.Local l) locked = refl
 
 all_as_they_are : (lines : List Line) → AreLocked lines → map line_under_locks lines ≡ lines
 all_as_they_are [] locked = refl
 all_as_they_are (line ∷ lines) locked =
     let P : Line → Type 0 = λ l. IsLocked l.what in
-    ap (λ (w : what.What). record line { what = w } ∷ map line_under_locks lines) (as_they_are line.what (All-head P line lines locked)) ∙ ap (λ ls. line ∷ ls) (all_as_they_are lines (All-tail P line lines locked))
+    ap (λ (w : What). record line { what = w } ∷ map line_under_locks lines) (as_they_are line.what (All-head P line lines locked)) ∙ ap (λ ls. line ∷ ls) (all_as_they_are lines (All-tail P line lines locked))
 
 pub plain_unique : PlainRunsAreOne
 plain_unique s first second first_ends second_ends a b =

@@ -4,7 +4,8 @@ use Rattle.at_model.specs.declared.last.Final as final
 use Rattle.at_line.specs.declared.line.Line.{Line}
 use Rattle.at_line.specs.Legal.{IsLinearized}
 use Rattle.at_line.specs.Kept.{IsKept}
-use Rattle.at_line.specs.Lines.{main_thread, most_threads, what_of}
+use Rattle.at_script.specs.Limits.{most_threads}
+use Rattle.at_line.specs.Lines.{main_thread, what_of}
 use Rattle.at_event.specs.Events.{EventState, Event, first_state, IsEventRun}
 use Rattle.at_event.specs.OneView.{IsDoneBy, operations_in}
 use Rattle.at_script.specs.Limits as limits

@@ -2,17 +2,16 @@
 -- of lines that are no run of it, each by one part.
 use Rattle.std.specs.Prelude.{ℕ, pos, List, [], ◌∷◌, ◌++◌, Some, None, codes}
 use Rattle.at_value.specs.declared.value.Value.TheVariants as values
-use Rattle.at_value.specs.declared.operation.Op as op
+use Rattle.at_value.specs.Types.{Op}
 use Rattle.at_value.specs.declared.operation.Op.TheVariants as ops
 use Rattle.at_value.specs.declared.reply.Reply.TheVariants as replies
-use Rattle.at_line.specs.declared.line.Line.{Line}
+use Rattle.at_line.specs.Types.{Line, What}
 use Rattle.at_line.specs.declared.line.Local.TheVariants as locals
-use Rattle.at_line.specs.declared.line.What as what
 use Rattle.at_line.specs.declared.line.What.TheVariants as whats
 use Rattle.at_line.specs.Lines.{main_thread, finally_thread}
-use Rattle.at_line.specs.LineExamples.{begins, does, line_in, makes_class, gets_five, gets_six, sets_five, sets_six, seven, eight}
+use Rattle.at_line.specs.LineExamples.{begins, does, line_in, makes_class, gets_five, gets_six, sets_five, sets_six, gives_seven, gives_eight}
 use Rattle.at_line.specs.KeptExamples.{ends_kept}
-use Rattle.at_script.specs.declared.stmt.Stmt as stmt
+use Rattle.at_script.specs.Types.{Stmt}
 use Rattle.at_script.specs.declared.stmt.Stmt.TheVariants as stmts
 use Rattle.at_script.specs.declared.stmt.Operand.TheVariants as operands
 use Rattle.at_script.specs.declared.stmt.Target.TheVariants as targets
@@ -20,17 +19,17 @@ use Rattle.at_script.specs.Parts.{ScriptParts}
 use Rattle.at_script.specs.Tables as tables
 
 -- `begin a`, `set a.x 7`, `finish`, `get a.y`, `let b a`
-abbrev pub first_block : List stmt.Stmt
+abbrev pub first_block : List Stmt
 first_block =
     stmts.Begin (targets.Var 0) None ∷ stmts.Set (targets.Var 0) 5 (operands.Value (values.Int (pos 7))) ∷ stmts.Finish ∷ stmts.Get (targets.Var 0) 6
     ∷ stmts.Let 1 (operands.Var 0) ∷ []
 
 -- `set a.y 8`, `get b.x`
-abbrev pub second_block : List stmt.Stmt
+abbrev pub second_block : List Stmt
 second_block = stmts.Set (targets.Var 0) 6 (operands.Value (values.Int (pos 8))) ∷ stmts.Get (targets.Var 1) 5 ∷ []
 
 -- `get a.x`
-abbrev pub last_block : List stmt.Stmt
+abbrev pub last_block : List Stmt
 last_block = stmts.Get (targets.Var 0) 5 ∷ []
 
 -- `main` makes a class, `class C`, and an object, `new a C`, whose variable the threads and `finally` use. The variable that
@@ -57,7 +56,7 @@ main_lines = line_in main_thread 1 (does 1 makes_class replies.Done) ∷ line_in
 abbrev pub section_lines : List Line
 section_lines = line_in 1 1 (begins 2 0) ∷ line_in 1 2 (does 3 sets_five replies.Done) ∷ line_in 1 3 (ends_kept 3) ∷ []
 
-abbrev pub says_unbound : ℕ → what.What
+abbrev pub says_unbound : ℕ → What
 says_unbound variable = whats.Local (locals.Unbound variable)
 
 -- the second thread, and `finally`
@@ -65,7 +64,7 @@ abbrev pub second_lines : List Line
 second_lines = line_in 2 1 (does 4 sets_six replies.Done) ∷ line_in 2 2 (says_unbound 1) ∷ []
 
 abbrev pub last_lines : List Line
-last_lines = line_in finally_thread 1 (does 4 gets_five seven) ∷ []
+last_lines = line_in finally_thread 1 (does 4 gets_five gives_seven) ∷ []
 
 -- the first thread ends, and then the second writes
 abbrev pub plain_lines : List Line
@@ -73,10 +72,10 @@ plain_lines = main_lines ++ section_lines ++ line_in 1 4 (does 3 gets_six replie
 
 -- the second thread writes after the section of the first, and before its last read
 abbrev pub interleaved_lines : List Line
-interleaved_lines = main_lines ++ section_lines ++ line_in 1 4 (does 4 gets_six eight) ∷ second_lines ++ last_lines
+interleaved_lines = main_lines ++ section_lines ++ line_in 1 4 (does 4 gets_six gives_eight) ∷ second_lines ++ last_lines
 
 -- both have this history
-abbrev pub example_history : List op.Op
+abbrev pub example_history : List Op
 example_history = makes_class ∷ ops.New 1 ∷ sets_five ∷ sets_six ∷ []
 
 -- Lists that are no run of the script
@@ -96,13 +95,13 @@ variable_forgotten_at_last =
 abbrev pub variable_shared : List Line
 variable_shared =
     main_lines ++ section_lines ++ line_in 1 4 (does 3 gets_six replies.NoAttr) ∷ line_in 2 1 (does 4 sets_six replies.Done)
-    ∷ line_in 2 2 (does 4 gets_five seven) ∷ last_lines
+    ∷ line_in 2 2 (does 4 gets_five gives_seven) ∷ last_lines
 
 -- each thread has the lines of the other
 abbrev pub threads_swapped : List Line
 threads_swapped =
     main_lines ++ line_in 1 1 (does 3 sets_six replies.Done) ∷ line_in 1 2 (says_unbound 1) ∷ line_in 2 1 (begins 3 0) ∷ line_in 2 2 (does 4 sets_five replies.Done)
-    ∷ line_in 2 3 (ends_kept 4) ∷ line_in 2 4 (does 4 gets_six eight) ∷ last_lines
+    ∷ line_in 2 3 (ends_kept 4) ∷ line_in 2 4 (does 4 gets_six gives_eight) ∷ last_lines
 
 -- `finally` has no line
 abbrev pub finally_left_out : List Line
@@ -116,7 +115,7 @@ numbered_from_zero =
 
 -- a thread that the script hasn't says a line
 abbrev pub thread_added : List Line
-thread_added = main_lines ++ section_lines ++ line_in 1 4 (does 3 gets_six replies.NoAttr) ∷ second_lines ++ line_in 3 1 (does 4 gets_six eight) ∷ last_lines
+thread_added = main_lines ++ section_lines ++ line_in 1 4 (does 3 gets_six replies.NoAttr) ∷ second_lines ++ line_in 3 1 (does 4 gets_six gives_eight) ∷ last_lines
 
 -- the second thread stands before the first
 abbrev pub threads_out_of_order : List Line

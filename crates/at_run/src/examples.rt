@@ -7,7 +7,10 @@ ghost use Rattle.at_line.specs.Kept.{IsKept};
 ghost use Rattle.at_thread.specs.Runs.{IsRunOf};
 ghost use Rattle.at_run.specs.Opening.{opening_of};
 ghost use Rattle.at_run.specs.PlainRun.{IsPlainRun};
-ghost use Rattle.at_run.specs.RunExamples.{example_script, example_history, plain_lines, interleaved_lines, variable_forgotten, variable_forgotten_at_last, variable_shared, threads_swapped, finally_left_out, numbered_from_zero, thread_added, threads_out_of_order};
+ghost use Rattle.at_run.specs.RunExamples.{example_script, example_history, plain_lines, interleaved_lines};
+ghost use Rattle.at_run.specs.RunExamples.{variable_forgotten, variable_forgotten_at_last, variable_shared};
+ghost use Rattle.at_run.specs.RunExamples.{threads_swapped, finally_left_out, numbered_from_zero, thread_added};
+ghost use Rattle.at_run.specs.RunExamples.{threads_out_of_order};
 
 /// A run in which the second thread runs once the first has ended.
 pub fn plain_example()
@@ -21,16 +24,16 @@ pub fn interleaved_example()
     ensures kept { IsKept (opening_of example_script) example_history interleaved_lines }
 {}
 
-/// Lists in which the threads, or `finally` alone, begin without the variable that `main` has bound, or a thread begins with
-/// one that another thread has bound.
+/// Lists in which the threads, or `finally` alone, begin without the variable that `main` has bound, or a thread
+/// begins with one that another thread has bound.
 pub fn lists_with_wrong_variables()
     ensures threads { ¬ IsRunOf example_script variable_forgotten }
     ensures finally { ¬ IsRunOf example_script variable_forgotten_at_last }
     ensures shared { ¬ IsRunOf example_script variable_shared }
 {}
 
-/// Lists in which the threads execute the blocks of each other, `finally` has no line, or a thread is there that the script
-/// hasn't.
+/// Lists in which the threads execute the blocks of each other, `finally` has no line, or a thread is there that the
+/// script hasn't.
 pub fn lists_with_wrong_blocks()
     ensures swapped { ¬ IsRunOf example_script threads_swapped }
     ensures left_out { ¬ IsRunOf example_script finally_left_out }

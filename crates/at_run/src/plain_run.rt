@@ -24,7 +24,8 @@ enum Turn {
     Says(What),
 }
 
-/// Runs the block `main` of a script from the opening world on, each path `Locked`. The script has no other blocks to run.
+/// Runs the block `main` of a script from the opening world on, each path `Locked`. The script has no other blocks to
+/// run.
 pub fn run_main(alloc: Global, script: &Script) -> Result<Ran, AllocError>
     requires { (script.now.threads ≡ []) × (script.now.finally ≡ None) }
     ensures { IfOk result (λ ran. IsPlainRun script.now ran.lines ran.last) }
@@ -109,7 +110,8 @@ fn did(
     op: &LineOp,
     reply_use: &ReplyUse,
 ) -> Result<What, AllocError>
-    ensures answers { IfOk result (λ what. Answers (λ t. t ≡ state_of thread.new) op.now reply_use.now (state_of thread.old) what) }
+    ensures answers { IfOk result (λ what.
+        Answers (λ t. t ≡ state_of thread.new) op.now reply_use.now (state_of thread.old) what) }
     ensures tells { IfOk result (λ what. Tells plain.old what plain.new × IsPlain what) }
 {
     let reply = match op {

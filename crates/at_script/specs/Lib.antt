@@ -11,3 +11,4 @@ pub mod Parts
 pub mod Script
 pub mod Reading
 pub mod Faults
+pub mod Types

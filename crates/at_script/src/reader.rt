@@ -6,7 +6,9 @@ ghost use Rattle.at_value.specs.Widths as widths;
 ghost use Rattle.at_script.specs.Views.{pieces_left};
 ghost use Rattle.at_script.specs.Shapes.{declared_by};
 ghost use Rattle.at_script.specs.Faults.{IsFaultAt};
-ghost use Rattle.at_script.specs.Script.{is_allowed, is_readable, has_only, is_header, without_last_newline, lines_of, words_in, headed, func_of, after_funcs, funcs_in, with_funcs, declared_in, script_of_lines, script_of};
+ghost use Rattle.at_script.specs.Script.{is_allowed, is_readable, has_only, is_header, without_last_newline, lines_of};
+ghost use Rattle.at_script.specs.Script.{words_in, headed, func_of, after_funcs, funcs_in, with_funcs, declared_in};
+ghost use Rattle.at_script.specs.Script.{script_of_lines, script_of};
 ghost use Rattle.at_script.specs.Reading.{with_declared, stated, with_line, main_of};
 ghost use Rattle.at_name.specs.Texts.{all_interned};
 
@@ -26,18 +28,18 @@ const BYTES_MOST: usize = 1_048_576;
 /// Reads the text of a script, of at most 1,048,576 bytes.
 ///
 /// Lines are split at newlines, and the words of a line at blanks, which are spaces, tabs and carriage returns; the
-/// other bytes are those of ASCII that print. A line without words, or whose first word begins with `#`, is skipped, but
-/// for the first. The first line is `attrs 1`. Then come functions, which have no statements for now: the line `func F` and
-/// the line `end` for each. The next line is `main`, the last `end`; between them stand statements:
+/// other bytes are those of ASCII that print. A line without words, or whose first word begins with `#`, is skipped,
+/// but for the first. The first line is `attrs 1`. Then come functions, which have no statements for now: the line
+/// `func F` and the line `end` for each. The next line is `main`, the last `end`; between them stand statements:
 /// `class C B..`, `put C.x V`, `cut C.x`, `new a C [V]`, `mro C`, `set R.x V`, `del R.x`, `get R.x`, `super C R.x`,
-/// `special R.x` and `classof R`. C and B are classes, `object` or such as some line declares, with at most eight B; the C
-/// of `class` isn't `object`. a is a variable, which is called as no class and no function is; R is a variable or a class;
-/// x is the name of an attribute, not `mro`, and if it begins and ends with `__` one of thirteen special names. V is
-/// `none`, a number of 32 bits, an identifier in double quotes, a class, a function F, `static:F`, `classm:F`,
-/// `prop:P,P,P` where P is a function or `-`, or a variable. An identifier has at most 32 bytes, and is none of `none`,
-/// `self`, `arg`, `other`, `it` and `object`. There are at most 255 classes with `object`, 4,096 names and texts with the
-/// five special names, 1,024 functions and 1,024 variables. Classes and functions are numbered by the lines that declare
-/// them, names and variables as they first stand in the script.
+/// `special R.x` and `classof R`. C and B are classes, `object` or such as some line declares, with at most eight B;
+/// the C of `class` isn't `object`. a is a variable, which is called as no class and no function is; R is a variable
+/// or a class; x is the name of an attribute, not `mro`, and if it begins and ends with `__` one of thirteen special
+/// names. V is `none`, a number of 32 bits, an identifier in double quotes, a class, a function F, `static:F`,
+/// `classm:F`, `prop:P,P,P` where P is a function or `-`, or a variable. An identifier has at most 32 bytes, and is
+/// none of `none`, `self`, `arg`, `other`, `it` and `object`. There are at most 255 classes with `object`, 4,096 names
+/// and texts with the five special names, 1,024 functions and 1,024 variables. Classes and functions are numbered by
+/// the lines that declare them, names and variables as they first stand in the script.
 ///
 /// All other bytes are refused, with line 0 and `Cause::Script`.
 pub fn read(alloc: Global, bytes: &[u8]) -> Result<Script, ReadFault>
@@ -167,7 +169,9 @@ fn script_of_lines(alloc: Global, lines: Pieces<'_>) -> Result<Option<Script>, A
 
 /// Adds the classes that the lines declare. It answers `false` where there are more than there may be.
 fn declare_classes(classes: &mut Texts<CLASSES_MOST>, lines: Pieces<'_>) -> Result<bool, AllocError>
-    ensures { IfOk result (λ fit. all_interned widths.classes classes.old (declared_in (pieces_left lines.entry)) ≡ (if fit then Some classes.new else None)) }
+    ensures { IfOk result (λ fit.
+        all_interned widths.classes classes.old (declared_in (pieces_left lines.entry))
+        ≡ (if fit then Some classes.new else None)) }
 {
     for line in lines {
         if !declare(classes, line)? {
@@ -179,7 +183,8 @@ fn declare_classes(classes: &mut Texts<CLASSES_MOST>, lines: Pieces<'_>) -> Resu
 
 /// Adds the class that the line declares, where it declares one. It answers `false` where that is one too many.
 fn declare(classes: &mut Texts<CLASSES_MOST>, line: &[u8]) -> Result<bool, AllocError>
-    ensures { IfOk result (λ fits. with_declared classes.old (declared_by (words_in line.now)) ≡ (if fits then Some classes.new else None)) }
+    ensures { IfOk result (λ fits.
+        with_declared classes.old (declared_by (words_in line.now)) ≡ (if fits then Some classes.new else None)) }
 {
     match declared_by(Pieces::new(line, Part::Word)) {
         Some(class) => Ok(classes.intern(class)?.is_some()),
@@ -190,7 +195,8 @@ fn declare(classes: &mut Texts<CLASSES_MOST>, line: &[u8]) -> Result<bool, Alloc
 /// Adds the functions that the lines declare. It answers `false` where one is called as a class or as one before it is,
 /// or where there are more than there may be.
 fn declare_funcs(tables: &mut Tables, lines: Pieces<'_>) -> Result<bool, AllocError>
-    ensures { IfOk result (λ fit. with_funcs tables.old (funcs_in (pieces_left lines.entry)) ≡ (if fit then Some tables.new else None)) }
+    ensures { IfOk result (λ fit.
+        with_funcs tables.old (funcs_in (pieces_left lines.entry)) ≡ (if fit then Some tables.new else None)) }
 {
     for line in lines {
         if let Some(name) = func_of(line) {
@@ -208,7 +214,8 @@ fn read_main(
     tables: &mut Tables,
     mut lines: Pieces<'_>,
 ) -> Result<Option<Vec<Stmt>>, AllocError>
-    ensures { IfOk result (λ main. option_map (λ m. (m.items, tables.new)) main ≡ main_of tables.old [] (pieces_left lines.entry)) }
+    ensures { IfOk result (λ main.
+        option_map (λ m. (m.items, tables.new)) main ≡ main_of tables.old [] (pieces_left lines.entry)) }
 {
     let mut main = Vec::new(alloc);
     while let Some(line) = lines.next() {
@@ -228,7 +235,8 @@ fn read_main(
 
 /// Adds the statement of a line at the end. It answers `false` where the line is none.
 fn add_line(tables: &mut Tables, main: &mut Vec<Stmt>, line: &[u8]) -> Result<bool, AllocError>
-    ensures { IfOk result (λ added. with_line tables.old main.old.items line.now ≡ (if added then Some (main.new.items, tables.new) else None)) }
+    ensures { IfOk result (λ added.
+        with_line tables.old main.old.items line.now ≡ (if added then Some (main.new.items, tables.new) else None)) }
 {
     let Some(statement) = statement_of(tables, line)? else {
         return Ok(false);

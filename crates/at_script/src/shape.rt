@@ -1,7 +1,9 @@
 //! What a line says, before its words are looked up.
 ghost use Rattle.std.specs.Prelude.{◌≡◌};
 ghost use Rattle.std.specs.Option.{option_map, option_copied};
-ghost use Rattle.at_script.specs.Shapes.{attribute_of, owned_of, class_says, put_says, cut_says, given_of, new_says, mro_says, set_says, del_says, get_says, super_says, special_says, classof_says, object_says, words_say, declared_by};
+ghost use Rattle.at_script.specs.Shapes.{attribute_of, owned_of, class_says, put_says, cut_says, given_of, new_says};
+ghost use Rattle.at_script.specs.Shapes.{mro_says, set_says, del_says, get_says, super_says, special_says};
+ghost use Rattle.at_script.specs.Shapes.{classof_says, object_says, words_say, declared_by};
 ghost use Rattle.at_script.specs.Views.{written, pieces_left, both_now, said};
 
 use crate::literal::{Literal, value_of};

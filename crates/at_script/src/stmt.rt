@@ -10,8 +10,8 @@ pub enum Operand {
     Value(Value),
     /// The variable with this number.
     Var(u16),
-    /// What the running function was called on: an object, or a class; none outside a call, and where it was called as a plain
-    /// value or as a staticmethod.
+    /// What the running function was called on: an object, or a class; none outside a call, and where it was called as
+    /// a plain value or as a staticmethod.
     SelfArg,
     /// The argument of the running function.
     Arg,
@@ -28,8 +28,8 @@ pub enum Target {
     Class(Class),
     /// The variable with this number.
     Var(u16),
-    /// What the running function was called on: an object, or a class; none outside a call, and where it was called as a plain
-    /// value or as a staticmethod.
+    /// What the running function was called on: an object, or a class; none outside a call, and where it was called as
+    /// a plain value or as a staticmethod.
     SelfArg,
     /// The argument of the running function.
     Arg,

@@ -7,7 +7,8 @@ ghost use Rattle.at_script.specs.Literals.{quoted, named, static, classm, prop};
 ghost use Rattle.at_script.specs.Shapes.{class, put, cut, new, mro, set, del, get, super_read, special, classof};
 ghost use Rattle.at_script.specs.Views.{written, pieces_left, said, in_tables};
 ghost use Rattle.at_script.specs.Script.{with_func};
-ghost use Rattle.at_script.specs.Tables.{initial_tables, class_at, bases_at, func_at, variable_in, name_in, target_in, attribute_in, part_at, property_at, operand_in, given_in, statement_in};
+ghost use Rattle.at_script.specs.Tables.{initial_tables, class_at, bases_at, func_at, variable_in, name_in, target_in};
+ghost use Rattle.at_script.specs.Tables.{attribute_in, part_at, property_at, operand_in, given_in, statement_in};
 
 use crate::literal::Literal;
 use crate::pieces::Pieces;
@@ -175,7 +176,8 @@ impl Tables {
     }
 
     fn property_at(&self, get: Option<&str>, set: Option<&str>, del: Option<&str>) -> Option<Value>
-        ensures { result ≡ property_at self.now (option_copied get.entry) (option_copied set.entry) (option_copied del.entry) }
+        ensures { result
+            ≡ property_at self.now (option_copied get.entry) (option_copied set.entry) (option_copied del.entry) }
     {
         let get = self.part_at(get)?;
         let set = self.part_at(set)?;
@@ -189,7 +191,8 @@ impl Tables {
         set: Option<&str>,
         del: Option<&str>,
     ) -> Option<Operand>
-        ensures { in_tables result self.now ≡ operand_in self.now (prop (option_copied get.entry) (option_copied set.entry) (option_copied del.entry)) }
+        ensures { in_tables result self.now
+            ≡ operand_in self.now (prop (option_copied get.entry) (option_copied set.entry) (option_copied del.entry)) }
     {
         Some(Operand::Value(self.property_at(get, set, del)?))
     }
@@ -230,7 +233,8 @@ impl Tables {
     }
 
     fn given(&mut self, literal: Option<Literal<'_>>) -> Result<Option<Option<Operand>>, AllocError>
-        ensures { IfOk result (λ value. in_tables value self.new ≡ given_in self.old (option_map written literal.entry)) }
+        ensures { IfOk result (λ value.
+            in_tables value self.new ≡ given_in self.old (option_map written literal.entry)) }
     {
         match literal {
             Some(literal) => match self.operand(literal)? {
@@ -254,7 +258,8 @@ impl Tables {
         name: &str,
         value: Literal<'_>,
     ) -> Result<Option<Stmt>, AllocError>
-        ensures { IfOk result (λ stmt. in_tables stmt self.new ≡ statement_in self.old (put class.now name.now (written value.entry))) }
+        ensures { IfOk result (λ stmt.
+            in_tables stmt self.new ≡ statement_in self.old (put class.now name.now (written value.entry))) }
     {
         let Some(class) = self.class_at(class) else {
             return Ok(None);
@@ -286,7 +291,9 @@ impl Tables {
         class: &[u8],
         given: Option<Literal<'_>>,
     ) -> Result<Option<Stmt>, AllocError>
-        ensures { IfOk result (λ stmt. in_tables stmt self.new ≡ statement_in self.old (new variable.now class.now (option_map written given.entry))) }
+        ensures { IfOk result (λ stmt.
+            in_tables stmt self.new
+            ≡ statement_in self.old (new variable.now class.now (option_map written given.entry))) }
     {
         let Some(class) = self.class_at(class) else {
             return Ok(None);
@@ -312,7 +319,8 @@ impl Tables {
         name: &str,
         value: Literal<'_>,
     ) -> Result<Option<Stmt>, AllocError>
-        ensures { IfOk result (λ stmt. in_tables stmt self.new ≡ statement_in self.old (set owner.now name.now (written value.entry))) }
+        ensures { IfOk result (λ stmt.
+            in_tables stmt self.new ≡ statement_in self.old (set owner.now name.now (written value.entry))) }
     {
         let Some((target, name)) = self.attribute(owner, name)? else {
             return Ok(None);
@@ -347,7 +355,8 @@ impl Tables {
         owner: &str,
         name: &str,
     ) -> Result<Option<Stmt>, AllocError>
-        ensures { IfOk result (λ stmt. in_tables stmt self.new ≡ statement_in self.old (super_read class.now owner.now name.now)) }
+        ensures { IfOk result (λ stmt.
+            in_tables stmt self.new ≡ statement_in self.old (super_read class.now owner.now name.now)) }
     {
         let Some(class) = self.class_at(class) else {
             return Ok(None);

@@ -2,7 +2,10 @@
 ghost use Rattle.std.specs.Prelude.{◌≡◌, IsTrue};
 ghost use Rattle.std.specs.List.{list_all};
 ghost use Rattle.std.specs.Option.{option_copied};
-ghost use Rattle.at_script.specs.Words.{begins_identifier, continues_identifier, has_identifier_form, is_reserved, is_identifier, is_system_name, is_access_name, is_method_name, is_open_name, is_attribute_name, is_class_word, identifier_of, attribute_name_of, class_word_of};
+ghost use Rattle.at_script.specs.Words.{begins_identifier, continues_identifier, has_identifier_form, is_reserved};
+ghost use Rattle.at_script.specs.Words.{is_identifier, is_system_name, is_access_name, is_method_name, is_open_name};
+ghost use Rattle.at_script.specs.Words.{is_attribute_name, is_class_word, identifier_of, attribute_name_of};
+ghost use Rattle.at_script.specs.Words.{class_word_of};
 
 use std::str;
 

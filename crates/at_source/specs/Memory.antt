@@ -14,8 +14,8 @@ abbrev pub fails_next : CallState → Bool
 fails_next calls = list_any (λ number. number == calls.made) calls.fails
 
 -- after one more call, which failed or not
-abbrev pub counted : CallState → Bool → CallState
-counted calls failed = record calls { made = one_more calls.made; faults = if failed then one_more calls.faults else calls.faults }
+abbrev pub after_call : CallState → Bool → CallState
+after_call calls failed = record calls { made = one_more calls.made; faults = if failed then one_more calls.faults else calls.faults }
 
 -- A source in memory: the bytes still to come, and the most that a read gives.
 pub record SourceState : Type 0 where
@@ -35,4 +35,4 @@ pub record SinkState : Type 0 where
 -- a sink after one more flush, which failed or not
 abbrev pub after_flush : SinkState → Bool → SinkState
 after_flush sink failed =
-    record sink { is_flushed = if failed then sink.is_flushed else true; calls = counted sink.calls failed }
+    record sink { is_flushed = if failed then sink.is_flushed else true; calls = after_call sink.calls failed }

@@ -1,8 +1,8 @@
 //! Bytes that are copied into memory that is there.
 ghost use Rattle.std.specs.Prelude.{◌≡◌, ◌+◌, ◌≤◌, ◌++◌, length, min, take, drop, replicate, vec_len, vec_capacity};
 
-/// Copies bytes from the beginning of `from` to the prefix of `buf`, at most `most` and as many as both hold, and says how
-/// many. The rest of `buf` is unchanged.
+/// Copies bytes from the beginning of `from` to the prefix of `buf`, at most `most` and as many as both hold, and says
+/// how many. The rest of `buf` is unchanged.
 pub(crate) fn copy_prefix(from: &[u8], buf: &mut [u8], most: usize) -> usize
     ensures count { result ≡ min (min most (length buf.old)) (length from.now) }
     ensures prefix { take result buf.new ≡ take result from.now }

@@ -1,7 +1,9 @@
 //! A source and a sink in memory, of known content, that fail at chosen calls.
-ghost use Rattle.std.specs.Prelude.{◌≡◌, ◌==◌, ◌+◌, ◌-◌, ◌<◌, ◌≤◌, ◌↔◌, ℕ, List, [], Option, Some, Bool, false, length, min, take, drop, vec_len, vec_capacity, IsErr, IsTrue, is_err, IfOk, OnErr, ◌++◌, ◌⊎◌, if◌then◌else◌};
+ghost use Rattle.std.specs.Prelude.{◌≡◌, ◌==◌, ◌+◌, ◌-◌, ◌<◌, ◌≤◌, ◌↔◌, ℕ, List, [], Option, Some, Bool, false, length};
+ghost use Rattle.std.specs.Prelude.{min, take, drop, vec_len, vec_capacity, IsErr, IsTrue, is_err, IfOk, OnErr, ◌++◌};
+ghost use Rattle.std.specs.Prelude.{◌⊎◌, if◌then◌else◌};
 ghost use Rattle.at_source.specs.Faults.{one_more};
-ghost use Rattle.at_source.specs.Memory.{CallState, SourceState, SinkState, after_flush, counted, fails_next};
+ghost use Rattle.at_source.specs.Memory.{CallState, SourceState, SinkState, after_call, after_flush, fails_next};
 
 use crate::bytes::{append, copy_prefix};
 use crate::sink::Sink;
@@ -37,7 +39,7 @@ impl Calls {
 
     fn begin(&mut self) -> Result<(), Failed>
         ensures fails { IsErr result ↔ IsTrue (fails_next self.old) }
-        ensures after { self.new ≡ counted self.old (is_err result) }
+        ensures after { self.new ≡ after_call self.old (is_err result) }
         ensures later { self.old.faults ≤ self.new.faults }
     {
         let is_fault = self.fails.contains(&self.made);
@@ -109,7 +111,7 @@ impl Source for MemSource {
         ensures rest { IfOk result (λ k. drop k buf.new ≡ drop k buf.old) }
 
         // The call is counted, and the limit is unchanged.
-        ensures calls { self.new.calls ≡ counted self.old.calls (is_err result) }
+        ensures calls { self.new.calls ≡ after_call self.old.calls (is_err result) }
         ensures later { self.old.calls.faults ≤ self.new.calls.faults }
         ensures limit { self.new.most ≡ self.old.most }
         ensures positive { 0 < self.old.most }
@@ -134,7 +136,13 @@ pub struct MemSink {
 impl Model for MemSink {
     ghost Value = { SinkState };
 
-    ghost view = { λ s. record { written = s.bytes.items; room = s.room; most = s.most; is_flushed = s.is_flushed; calls = s.calls } };
+    ghost view = { λ s. record {
+      written = s.bytes.items;
+      room = s.room;
+      most = s.most;
+      is_flushed = s.is_flushed;
+      calls = s.calls;
+    } };
 
     ghost invariant = { λ s. (vec_len s.bytes + s.room ≤ vec_capacity s.bytes) × (0 < s.most) };
 }
@@ -193,7 +201,7 @@ impl Sink for MemSink {
         ensures room { self.new.room + length self.new.written ≡ self.old.room + length self.old.written }
 
         // The call is counted, and the limit is unchanged.
-        ensures calls { self.new.calls ≡ counted self.old.calls (is_err result) }
+        ensures calls { self.new.calls ≡ after_call self.old.calls (is_err result) }
         ensures later { self.old.calls.faults ≤ self.new.calls.faults }
         ensures limit { self.new.most ≡ self.old.most }
         ensures positive { 0 < self.old.most }

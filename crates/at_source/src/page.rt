@@ -1,5 +1,6 @@
 //! A page of text before a sink. It remembers a failed write, so that what prints goes on in straight lines.
-ghost use Rattle.std.specs.Prelude.{◌≡◌, ◌+◌, ◌<◌, ◌≤◌, ◌⊎◌, ℕ, List, [], ◌∷◌, Option, length, true, false, vec_capacity, IfOk, IsErr, IsTrue, OnOk, OnErr};
+ghost use Rattle.std.specs.Prelude.{◌≡◌, ◌+◌, ◌<◌, ◌≤◌, ◌⊎◌, ℕ, List, [], ◌∷◌, Option, length, true, false};
+ghost use Rattle.std.specs.Prelude.{vec_capacity, IfOk, IsErr, IsTrue, OnOk, OnErr};
 ghost use Rattle.std.specs.Io.KnownBytes.{append_known};
 ghost use Rattle.at_source.specs.Faults.{Rose};
 ghost use Rattle.at_source.specs.Page.{Held, Writes, Printed, empty_page, page_len, with_more};
@@ -76,7 +77,8 @@ impl Page {
         }
     }
 
-    /// Sends what is held back, and flushes the sink. `Ok` says that all that was put on the page is written and flushed.
+    /// Sends what is held back, and flushes the sink. `Ok` says that all that was put on the page is written and
+    /// flushed.
     pub fn finish<K: Sink>(mut self, out: &mut K) -> Result<(), Failed>
         // What the page held back was sent.
         ensures whole { OnOk result

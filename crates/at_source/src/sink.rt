@@ -1,5 +1,6 @@
 //! A sink of bytes.
-ghost use Rattle.std.specs.Prelude.{◌≡◌, ◌==◌, ◌<◌, ◌≤◌, ℕ, List, Option, Bool, false, length, take, IsTrue, IfOk, OnOk, OnErr, if◌then◌else◌};
+ghost use Rattle.std.specs.Prelude.{◌≡◌, ◌==◌, ◌<◌, ◌≤◌, ℕ, List, Option, Bool, false, length, take, IsTrue, IfOk};
+ghost use Rattle.std.specs.Prelude.{OnOk, OnErr, if◌then◌else◌};
 ghost use Rattle.std.specs.Io.KnownBytes.{append_known};
 ghost use Rattle.at_source.specs.Faults.{Rose};
 
@@ -17,8 +18,8 @@ pub trait Sink {
     /// How often the sink failed.
     ghost faults: { Self → ℕ };
 
-    /// Takes bytes from the beginning of the piece, and says how many: at least one of a piece that has one. To take none
-    /// of them is a fault. Where it fails, nothing was written.
+    /// Takes bytes from the beginning of the piece, and says how many: at least one of a piece that has one. To take
+    /// none of them is a fault. Where it fails, nothing was written.
     fn write(&mut self, piece: &[u8]) -> Result<usize, Failed>
         ensures most { IfOk result (λ k. k ≤ length piece.now) }
         ensures some { 0 < length piece.now → IfOk result (λ k. 0 < k) }

@@ -18,8 +18,8 @@ pub trait Source {
     /// How often the source failed.
     ghost faults: { Self → ℕ };
 
-    /// Gives the next bytes at the beginning of `buf`, and how many they are: at most the length of `buf`, and none of a
-    /// `buf` that has room only at the end of the input. Where it fails, no byte is lost.
+    /// Gives the next bytes at the beginning of `buf`, and how many they are: at most the length of `buf`, and none of
+    /// a `buf` that has room only at the end of the input. Where it fails, no byte is lost.
     fn read(&mut self, buf: &mut [u8]) -> Result<usize, Failed>
         ensures most { IfOk result (λ k. k ≤ length buf.old) }
         ensures given { IfOk result (λ k. left self.old ≡ prepend_known (take k buf.new) (left self.new)) }

@@ -1,5 +1,6 @@
 //! Std's input and output as a source and a sink.
-ghost use Rattle.std.specs.Prelude.{◌≡◌, ◌==◌, ◌<◌, ◌≤◌, None, OnErr, true, false, length, IfOk, IsTrue, is_ok, if◌then◌else◌};
+ghost use Rattle.std.specs.Prelude.{◌≡◌, ◌==◌, ◌<◌, ◌≤◌, None, OnErr, true, false, length, IfOk, IsTrue, is_ok};
+ghost use Rattle.std.specs.Prelude.{if◌then◌else◌};
 ghost use Rattle.std.specs.Io.KnownBytes.{ReadConsumes, WriteAppends, Keeps};
 ghost use Rattle.at_source.specs.Faults.{one_more};
 ghost use Rattle.at_source.specs.Standard.{ReaderState, WriterState};
@@ -57,8 +58,8 @@ impl<I: Read> Source for StdSource<I> {
     }
 }
 
-/// A writer of std as a sink of unknown content. Each error is a fault, that of an interrupted call too, and so is a write
-/// that takes nothing of a piece that isn't empty.
+/// A writer of std as a sink of unknown content. Each error is a fault, that of an interrupted call too, and so is a
+/// write that takes nothing of a piece that isn't empty.
 #[derive(Drop)]
 pub struct StdSink<O: Write> {
     faults: u64,

@@ -1,5 +1,6 @@
 //! A source and a sink that never fail.
-ghost use Rattle.std.specs.Prelude.{◌≡◌, ◌==◌, ◌≤◌, ◌++◌, ℕ, List, None, Some, Bool, true, false, length, min, take, drop, vec_len, IfOk, IsOk, IsTrue, Ok, if◌then◌else◌};
+ghost use Rattle.std.specs.Prelude.{◌≡◌, ◌==◌, ◌≤◌, ◌++◌, ℕ, List, None, Some, Bool, true, false, length, min, take};
+ghost use Rattle.std.specs.Prelude.{drop, vec_len, IfOk, IsOk, IsTrue, Ok, if◌then◌else◌};
 
 use crate::bytes::copy_prefix;
 use crate::sink::Sink;

@@ -1,5 +1,6 @@
 //! Whole inputs and whole texts, at any source and any sink.
-ghost use Rattle.std.specs.Prelude.{◌≡◌, ◌≢◌, ◌+◌, ◌*◌, ◌<◌, ◌≤◌, ℕ, length, take, drop, max, vec_len, vec_capacity, Err, IfOk, OnOk, OnErr};
+ghost use Rattle.std.specs.Prelude.{◌≡◌, ◌≢◌, ◌+◌, ◌*◌, ◌<◌, ◌≤◌, ℕ, length, take, drop, max, vec_len, vec_capacity};
+ghost use Rattle.std.specs.Prelude.{Err, IfOk, OnOk, OnErr};
 ghost use Rattle.std.specs.Io.KnownBytes.{IsAtEnd, append_known, prepend_known};
 ghost use Rattle.at_source.specs.Faults.{Rose};
 ghost use Rattle.at_source.specs.Whole.{GaveAll, GaveFirst, GaveFewer, GrewByPrefix};
@@ -52,9 +53,9 @@ const LONGEST_READ: usize = 64 * 1024;
 
 /// Reads a source to its end, or until it has given `most` bytes, whichever comes first.
 ///
-/// At the end it answers the bytes, fewer than `most`. It answers `TooLong` exactly where the source gave `most` bytes,
-/// and never takes more of them. It answers `Failed` exactly where the source's count of faults rose. Memory is taken as
-/// the bytes come.
+/// At the end it answers the bytes, fewer than `most`. It answers `TooLong` exactly where the source gave `most`
+/// bytes, and never takes more of them. It answers `Failed` exactly where the source's count of faults rose. Memory is
+/// taken as the bytes come.
 pub fn read_all<S: Source>(
     alloc: Global,
     source: &mut S,

@@ -3,7 +3,7 @@ use Rattle.std.specs.Prelude.{ℕ, List, [], ◌++◌, Option, Some, None, unwra
 use Rattle.std.specs.List.{flat_map}
 use Rattle.std.specs.Fmt.{signed_decimal}
 use Rattle.at_value.specs.Parts.{PropertyParts}
-use Rattle.at_value.specs.declared.value.Value as values
+use Rattle.at_value.specs.declared.value.Value as value
 use Rattle.at_value.specs.declared.value.Value.TheVariants.{Nothing, Int, Text, Func, Prop, Static, ClassM, Class, Obj}
 use Rattle.at_script.specs.Parts.{ScriptParts}
 
@@ -46,7 +46,7 @@ abbrev pub property_text : ScriptParts → PropertyParts → List ℕ
 property_text s p = codes "prop:" ++ part_text s p.get ++ codes "," ++ part_text s p.set ++ codes "," ++ part_text s p.del
 
 -- A value, as scripts write it; an object, which none writes, is `#N`.
-abbrev pub value_text : ScriptParts → values.Value → List ℕ
+abbrev pub value_text : ScriptParts → value.Value → List ℕ
 value_text s Nothing = codes "none"
 value_text s (Int z) = signed_decimal z
 value_text s (Text x) = codes "\"" ++ text_at s.names x ++ codes "\""
@@ -58,5 +58,5 @@ value_text s (Class c) = text_at s.classes c
 value_text s (Obj o) = object_text o
 
 -- a value, with a blank before it
-abbrev pub value_item : ScriptParts → values.Value → List ℕ
+abbrev pub value_item : ScriptParts → value.Value → List ℕ
 value_item s v = codes " " ++ value_text s v

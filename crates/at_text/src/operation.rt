@@ -4,7 +4,8 @@
 ghost use Rattle.std.specs.Prelude.{◌++◌, codes, decimal};
 ghost use Rattle.at_text.specs.Lines.{op_text, begin_text, line_op_text};
 ghost use Rattle.at_text.specs.Prints.{Prints};
-ghost use Rattle.at_text.specs.Values.{text_at, object_text, object_attribute, class_attribute, class_item, classes_text, value_item};
+ghost use Rattle.at_text.specs.Values.{text_at, object_text, object_attribute, class_attribute, class_item};
+ghost use Rattle.at_text.specs.Values.{classes_text, value_item};
 
 use crate::pen::Pen;
 use crate::value::{

@@ -21,7 +21,12 @@ impl<'a, K: Sink> Model for Pen<'a, K> {
 
     ghost Value = { PenState };
 
-    ghost view = { λ p. record { sink = p.out.ghost_name; written = K.written p.out.now; faults = K.faults p.out.now; page = p.page } };
+    ghost view = { λ p. record {
+      sink = p.out.ghost_name;
+      written = K.written p.out.now;
+      faults = K.faults p.out.now;
+      page = p.page;
+    } };
 }
 
 impl<'a, K: Sink> Pen<'a, K> {

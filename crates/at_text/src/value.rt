@@ -3,7 +3,8 @@
 
 ghost use Rattle.std.specs.Prelude.{◌++◌, codes, slice_get};
 ghost use Rattle.at_text.specs.Prints.{Prints};
-ghost use Rattle.at_text.specs.Values.{text_at, object_text, object_attribute, class_attribute, class_item, class_item_at, classes_text, part_text, property_text, value_text, value_item};
+ghost use Rattle.at_text.specs.Values.{text_at, object_text, object_attribute, class_attribute, class_item};
+ghost use Rattle.at_text.specs.Values.{class_item_at, classes_text, part_text, property_text, value_text, value_item};
 
 use crate::pen::Pen;
 use at_script::Script;

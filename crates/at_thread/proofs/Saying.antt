@@ -1,29 +1,25 @@
 -- A thread says no line of a limit by itself.
 use Rattle.std.proofs.Common.{◌≡◌, subst, ℕ, nat_le, Bool, true, false, List, [], ◌∷◌, length, Option, Some, None, Result, Ok, Err, if◌then◌else◌, slice_index_or}
-use Rattle.at_value.specs.declared.value.Value as value
+use Rattle.at_value.specs.Types.{Value}
 use Rattle.at_value.specs.declared.value.Value.TheVariants as values
-use Rattle.at_line.specs.declared.line.Local as local
+use Rattle.at_line.specs.Types.{Local}
 use Rattle.at_line.specs.declared.line.Local.TheVariants as locals
 use Rattle.at_line.specs.declared.line.What.TheVariants as whats
 use Rattle.at_line.specs.Serial.{NamesNoLimit}
-use Rattle.at_script.specs.declared.stmt.Stmt as stmt
+use Rattle.at_script.specs.Types.{Stmt, Operand, Target}
 use Rattle.at_script.specs.declared.stmt.Stmt.TheVariants as stmts
-use Rattle.at_script.specs.declared.stmt.Operand as operand
 use Rattle.at_script.specs.declared.stmt.Operand.TheVariants as operands
-use Rattle.at_script.specs.declared.stmt.Target as target
 use Rattle.at_script.specs.Parts.{ScriptParts}
 use Rattle.at_script.specs.Operands.{operand_of}
-use Rattle.at_thread.specs.declared.next.OnReturn as on_return
-use Rattle.at_thread.specs.declared.next.Call.{Call}
-use Rattle.at_thread.specs.declared.next.Action as action
+use Rattle.at_thread.specs.Types.{OnReturn, Call, Action}
 use Rattle.at_thread.specs.declared.next.Action.TheVariants as actions
 use Rattle.at_thread.specs.Execution.{Frame, ThreadState, Transition, ended, silent, checkpoints, says, asks, and_then, bound_to, operand_value, given_value, target_value, as_object, target_object, read_of, target_read, other_object, action_of, returned, return_next, finish_next, action_next, statement_next, begun_in, frame_next, frames_next, most_calls, called, call_next, pending_next, next_of}
 
 -- a local line that a statement brings about
-abbrev pub IsOwn : local.Local → Type 0
+abbrev pub IsOwn : Local → Type 0
 IsOwn l = NamesNoLimit (whats.Local l)
 
-abbrev pub ErrsOwn : {A : Type 0} → Result A local.Local → Type 0
+abbrev pub ErrsOwn : {A : Type 0} → Result A Local → Type 0
 ErrsOwn (Ok a) = Unit {0}
 ErrsOwn (Err l) = IsOwn l
 
@@ -34,15 +30,15 @@ SaysOwn (checkpoints s) = Unit {0}
 SaysOwn (says l s) = IsOwn l
 SaysOwn (asks o u s) = Unit {0}
 
-then_own : {A B : Type 0} (r : Result A local.Local) (f : A → Result B local.Local) → ErrsOwn r → ((a : A) → ErrsOwn (f a)) → ErrsOwn (and_then r f)
+then_own : {A B : Type 0} (r : Result A Local) (f : A → Result B Local) → ErrsOwn r → ((a : A) → ErrsOwn (f a)) → ErrsOwn (and_then r f)
 then_own (Ok a) f h g = g a
 then_own (Err l) f h g = h
 
-bound_own : (a : ℕ) (v : Option value.Value) → ErrsOwn (bound_to a v)
+bound_own : (a : ℕ) (v : Option Value) → ErrsOwn (bound_to a v)
 bound_own a None = tt
 bound_own a (Some v) = tt
 
-operand_own : (s : ThreadState) (f : Frame) (v : operand.Operand) → ErrsOwn (operand_value s f v)
+operand_own : (s : ThreadState) (f : Frame) (v : Operand) → ErrsOwn (operand_value s f v)
 operand_own s f (operands.Value v) = tt
 operand_own s f (operands.Var a) = bound_own a (slice_index_or s.variables a None)
 operand_own s f operands.SelfArg = tt
@@ -50,49 +46,49 @@ operand_own s f operands.Arg = tt
 operand_own s f operands.Other = tt
 operand_own s f operands.It = tt
 
-given_own : (s : ThreadState) (f : Frame) (v : Option operand.Operand) → ErrsOwn (given_value s f v)
+given_own : (s : ThreadState) (f : Frame) (v : Option Operand) → ErrsOwn (given_value s f v)
 given_own s f None = tt
 given_own s f (Some v) = operand_own s f v
 
-target_own : (s : ThreadState) (f : Frame) (r : target.Target) → ErrsOwn (target_value s f r)
+target_own : (s : ThreadState) (f : Frame) (r : Target) → ErrsOwn (target_value s f r)
 target_own s f r = operand_own s f (operand_of r)
 
-as_object_own : (v : value.Value) → ErrsOwn (as_object v)
+as_object_own : (v : Value) → ErrsOwn (as_object v)
 as_object_own (values.Obj o) = tt
 as_object_own v = tt
 
-object_own : (s : ThreadState) (f : Frame) (r : target.Target) → ErrsOwn (target_object s f r)
+object_own : (s : ThreadState) (f : Frame) (r : Target) → ErrsOwn (target_object s f r)
 object_own s f r = then_own (target_value s f r) as_object (target_own s f r) as_object_own
 
-read_own : (x : ℕ) (v : value.Value) → ErrsOwn (read_of v x)
+read_own : (x : ℕ) (v : Value) → ErrsOwn (read_of v x)
 read_own x (values.Obj o) = tt
 read_own x (values.Class c) = tt
 read_own x v = tt
 
-target_read_own : (s : ThreadState) (f : Frame) (r : target.Target) (x : ℕ) → ErrsOwn (target_read s f r x)
+target_read_own : (s : ThreadState) (f : Frame) (r : Target) (x : ℕ) → ErrsOwn (target_read s f r x)
 target_read_own s f r x = then_own (target_value s f r) (λ v. read_of v x) (target_own s f r) (read_own x)
 
-other_own : (s : ThreadState) (f : Frame) (o : ℕ) (r : Option target.Target) → ErrsOwn (other_object s f o r)
+other_own : (s : ThreadState) (f : Frame) (o : ℕ) (r : Option Target) → ErrsOwn (other_object s f o r)
 other_own s f o None = tt
 other_own s f o (Some r) = then_own (target_object s f r) _ (object_own s f r) (λ p. tt)
 
 -- what an action says by its own operand
-abbrev pub ActionOwn : action.Action → Type 0
+abbrev pub ActionOwn : Action → Type 0
 ActionOwn (actions.Bind a v) = Unit {0}
 ActionOwn (actions.Return v) = ErrsOwn v
 ActionOwn actions.Finish = Unit {0}
 ActionOwn actions.Checkpoint = Unit {0}
 ActionOwn (actions.Ask a) = Unit {0}
 
-abbrev pub AllOwn : Result action.Action local.Local → Type 0
+abbrev pub AllOwn : Result Action Local → Type 0
 AllOwn (Ok a) = ActionOwn a
 AllOwn (Err l) = IsOwn l
 
-then_all : {A : Type 0} (r : Result A local.Local) (f : A → Result action.Action local.Local) → ErrsOwn r → ((a : A) → AllOwn (f a)) → AllOwn (and_then r f)
+then_all : {A : Type 0} (r : Result A Local) (f : A → Result Action Local) → ErrsOwn r → ((a : A) → AllOwn (f a)) → AllOwn (and_then r f)
 then_all (Ok a) f h g = g a
 then_all (Err l) f h g = h
 
-action_own : (p : ScriptParts) (s : ThreadState) (f : Frame) (t : stmt.Stmt) → AllOwn (action_of p s f t)
+action_own : (p : ScriptParts) (s : ThreadState) (f : Frame) (t : Stmt) → AllOwn (action_of p s f t)
 action_own p s f (stmts.Class c bases) = tt
 action_own p s f (stmts.Bases c bases) = tt
 action_own p s f (stmts.Cut c x) = tt
@@ -115,7 +111,7 @@ action_own p s f (stmts.Return v) = operand_own s f v
 action_own p s f stmts.Finish = tt
 action_own p s f stmts.Checkpoint = tt
 
-return_says : (g : on_return.OnReturn) (s : ThreadState) (r : Result value.Value local.Local) → ErrsOwn r → SaysOwn (return_next g s r)
+return_says : (g : OnReturn) (s : ThreadState) (r : Result Value Local) → ErrsOwn r → SaysOwn (return_next g s r)
 return_says g s (Ok v) h = tt
 return_says g s (Err l) h = h
 
@@ -123,7 +119,7 @@ finish_says : (s : ThreadState) (b : Bool) → SaysOwn (finish_next s b)
 finish_says s true = tt
 finish_says s false = tt
 
-action_says : (s : ThreadState) (f : Frame) (below : List Frame) (a : Result action.Action local.Local) → AllOwn a → SaysOwn (action_next s f below a)
+action_says : (s : ThreadState) (f : Frame) (below : List Frame) (a : Result Action Local) → AllOwn a → SaysOwn (action_next s f below a)
 action_says s f below (Ok (actions.Bind a v)) h = tt
 action_says s f below (Ok (actions.Return v)) h = return_says f.on_return (record s { frames = below }) v h
 action_says s f below (Ok actions.Finish) h = finish_says s f.opened
@@ -131,10 +127,10 @@ action_says s f below (Ok actions.Checkpoint) h = tt
 action_says s f below (Ok (actions.Ask a)) h = tt
 action_says s f below (Err l) h = h
 
-statement_says : (p : ScriptParts) (s : ThreadState) (f : Frame) (below : List Frame) (t : stmt.Stmt) → SaysOwn (statement_next p s f below t)
+statement_says : (p : ScriptParts) (s : ThreadState) (f : Frame) (below : List Frame) (t : Stmt) → SaysOwn (statement_next p s f below t)
 statement_says p s f below t = action_says s f below (action_of p s f t) (action_own p s f t)
 
-frame_says : (p : ScriptParts) (s : ThreadState) (f : Frame) (below : List Frame) (rest : List stmt.Stmt) → SaysOwn (frame_next p s f below rest)
+frame_says : (p : ScriptParts) (s : ThreadState) (f : Frame) (below : List Frame) (rest : List Stmt) → SaysOwn (frame_next p s f below rest)
 frame_says p s f below [] = tt
 frame_says p s f below (t ∷ rest) = tests (nat_le p.budget s.begun)
   where
@@ -159,5 +155,5 @@ pending_says p s None = frames_says p s s.frames
 pending_says p s (Some c) = call_says p (record s { call = None }) c c.callee
 
 -- what a thread says by itself names no limit
-pub next_says : (p : ScriptParts) (s t : ThreadState) (l : local.Local) → next_of p s ≡ says l t → NamesNoLimit (whats.Local l)
+pub next_says : (p : ScriptParts) (s t : ThreadState) (l : Local) → next_of p s ≡ says l t → NamesNoLimit (whats.Local l)
 next_says p s t l e = subst SaysOwn e (pending_says p s s.call)

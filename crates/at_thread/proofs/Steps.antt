@@ -1,21 +1,17 @@
 -- Each step makes a thread smaller, and its lines few.
 use Rattle.std.proofs.Common.{◌≡◌, ◌∙◌, sym, ℕ, suc, ◌+◌, ◌-◌, ◌*◌, ◌<◌, ◌≤◌, nat_le, Bool, true, false, List, [], ◌∷◌, length, Option, Some, None, Result, Ok, Err, if◌then◌else◌, refl, ap, arith}
 use Rattle.std.proofs.lemmas.Bool.{leb-false}
-use Rattle.at_value.specs.declared.value.Value as value
+use Rattle.at_value.specs.Types.{Value}
 use Rattle.at_value.specs.declared.value.Value.TheVariants as values
 use Rattle.at_value.specs.declared.reply.Reply.TheVariants as replies
-use Rattle.at_line.specs.declared.line.LineReply as line_reply
+use Rattle.at_line.specs.Types.{LineReply, Local}
 use Rattle.at_line.specs.declared.line.LineReply.TheVariants as line_replies
-use Rattle.at_line.specs.declared.line.Local as local
 use Rattle.at_line.specs.declared.line.Local.TheVariants as locals
-use Rattle.at_script.specs.declared.stmt.Stmt as stmt
-use Rattle.at_thread.specs.declared.next.ReplyUse as reply_use
+use Rattle.at_script.specs.Types.{Stmt}
+use Rattle.at_thread.specs.Types.{ReplyUse, OnReturn, Action, Call}
 use Rattle.at_thread.specs.declared.next.ReplyUse.TheVariants as uses
-use Rattle.at_thread.specs.declared.next.OnReturn as on_return
 use Rattle.at_thread.specs.declared.next.OnReturn.TheVariants as on_returns
-use Rattle.at_thread.specs.declared.next.Action as action
 use Rattle.at_thread.specs.declared.next.Action.TheVariants as actions
-use Rattle.at_thread.specs.declared.next.Call.{Call}
 use Rattle.at_script.specs.Parts.{ScriptParts}
 use Rattle.at_thread.specs.Execution.{Frame, ThreadState, Transition, ended, silent, checkpoints, says, asks, action_of, returned, taken, dropped, with_opened, return_next, finish_next, action_next, statement_next, begun_in, frame_next, frames_next, most_calls, called, call_next, pending_next, next_of}
 
@@ -49,7 +45,7 @@ AllOnward p n lines ended = Unit {0}
 AllOnward p n lines (silent t) = Onward p n lines t
 AllOnward p n lines (checkpoints t) = Onward p n lines t
 AllOnward p n lines (says l t) = Onward p n (suc lines) t
-AllOnward p n lines (asks o u t) = ((r : line_reply.LineReply) → Onward p n (suc lines) (taken u r t)) × Onward p n (suc lines) (dropped t)
+AllOnward p n lines (asks o u t) = ((r : LineReply) → Onward p n (suc lines) (taken u r t)) × Onward p n (suc lines) (dropped t)
 
 -- a state that has room for a reply, or for a line
 pub record Roomy (p : ScriptParts) (n lines : ℕ) (f : Frame) (below : List Frame) (t : ThreadState) : Type 0 where
@@ -59,7 +55,7 @@ pub record Roomy (p : ScriptParts) (n lines : ℕ) (f : Frame) (below : List Fra
   pub few : suc (suc lines) ≤ 2 * t.begun
   pub within : t.begun ≤ p.budget
 
-returned_onward : (p : ScriptParts) (n lines : ℕ) (g : on_return.OnReturn) (v : value.Value) (t : ThreadState) → Onward p n lines t → Onward p n lines (returned g v t)
+returned_onward : (p : ScriptParts) (n lines : ℕ) (g : OnReturn) (v : Value) (t : ThreadState) → Onward p n lines t → Onward p n lines (returned g v t)
 returned_onward p n lines on_returns.Result v t h = record { smaller = h.smaller; few = record { few = h.few.few; within = h.few.within } }
 returned_onward p n lines on_returns.Nothing v t h = record { smaller = h.smaller; few = record { few = h.few.few; within = h.few.within } }
 returned_onward p n lines (on_returns.Object o) v t h = record { smaller = h.smaller; few = record { few = h.few.few; within = h.few.within } }
@@ -80,7 +76,7 @@ roomy_onward p n lines now_lines f g below t u most h frames begun =
     at_most None = omega arith
     at_most (Some c) = omega arith
 
-taken_onward : (p : ScriptParts) (n lines : ℕ) (f : Frame) (below : List Frame) (t : ThreadState) → Roomy p n lines f below t → (u : reply_use.ReplyUse) (r : line_reply.LineReply) → Onward p n (suc lines) (taken u r t)
+taken_onward : (p : ScriptParts) (n lines : ℕ) (f : Frame) (below : List Frame) (t : ThreadState) → Roomy p n lines f below t → (u : ReplyUse) (r : LineReply) → Onward p n (suc lines) (taken u r t)
 taken_onward p n lines f below t h uses.Read (line_replies.Of (replies.Hook k c r o v)) = roomy_onward p n lines (suc lines) f f below t _ (omega arith) h h.above refl
 taken_onward p n lines f below t h uses.Learn (line_replies.Of (replies.Value v)) = roomy_onward p n lines (suc lines) f f below t _ (omega arith) h h.above refl
 taken_onward p n lines f below t h uses.Write (line_replies.Of (replies.Hook k c r o v)) = roomy_onward p n lines (suc lines) f f below t _ (omega arith) h h.above refl
@@ -107,12 +103,12 @@ ended_onward p n lines now_lines f below t most h =
     let now : pending t.call ≡ 0 = ap pending h.free in
     record { smaller = omega arith; few = record { few = omega arith; within = omega arith } }
 
-return_onward : (p : ScriptParts) (n lines : ℕ) (f : Frame) (below : List Frame) (t : ThreadState) (g : on_return.OnReturn) (r : Result value.Value local.Local) → Roomy p n lines f below t → AllOnward p n lines (return_next g (record t { frames = below }) r)
+return_onward : (p : ScriptParts) (n lines : ℕ) (f : Frame) (below : List Frame) (t : ThreadState) (g : OnReturn) (r : Result Value Local) → Roomy p n lines f below t → AllOnward p n lines (return_next g (record t { frames = below }) r)
 return_onward p n lines f below t g (Ok v) h = returned_onward p n lines g v (record t { frames = below }) (ended_onward p n lines lines f below t (omega arith) h)
 return_onward p n lines f below t g (Err l) h = returned_onward p n (suc lines) g values.Nothing (record t { frames = below }) (ended_onward p n lines (suc lines) f below t (omega arith) h)
 
 -- a state with room for a reply
-asked_onward : (p : ScriptParts) (n lines : ℕ) (f : Frame) (below : List Frame) (t : ThreadState) → Roomy p n lines f below t → ((r : line_reply.LineReply) (u : reply_use.ReplyUse) → Onward p n (suc lines) (taken u r t)) × Onward p n (suc lines) (dropped t)
+asked_onward : (p : ScriptParts) (n lines : ℕ) (f : Frame) (below : List Frame) (t : ThreadState) → Roomy p n lines f below t → ((r : LineReply) (u : ReplyUse) → Onward p n (suc lines) (taken u r t)) × Onward p n (suc lines) (dropped t)
 asked_onward p n lines f below t h = (λ r u. taken_onward p n lines f below t h u r, roomy_onward p n lines (suc lines) f f below t _ (omega arith) h h.above refl)
 
 finish_onward : (p : ScriptParts) (n lines : ℕ) (f : Frame) (below : List Frame) (t : ThreadState) (b : Bool) → Roomy p n lines f below t → AllOnward p n lines (finish_next t b)
@@ -127,7 +123,7 @@ finish_onward p n lines f below t true h =
     (λ r. taken_onward p n lines _ below _ closed uses.Close r, (asked_onward p n lines _ below _ closed).1)
 finish_onward p n lines f below t false h = roomy_onward p n lines lines f f below t _ (omega arith) h h.above refl
 
-action_onward : (p : ScriptParts) (n lines : ℕ) (f : Frame) (below : List Frame) (t : ThreadState) (a : Result action.Action local.Local) → Roomy p n lines f below t → AllOnward p n lines (action_next t f below a)
+action_onward : (p : ScriptParts) (n lines : ℕ) (f : Frame) (below : List Frame) (t : ThreadState) (a : Result Action Local) → Roomy p n lines f below t → AllOnward p n lines (action_next t f below a)
 action_onward p n lines f below t (Ok (actions.Bind a v)) h = roomy_onward p n lines lines f f below t _ (omega arith) h h.above refl
 action_onward p n lines f below t (Ok (actions.Return v)) h = return_onward p n lines f below t f.on_return v h
 action_onward p n lines f below t (Ok actions.Finish) h = finish_onward p n lines f below t f.opened h
@@ -135,10 +131,10 @@ action_onward p n lines f below t (Ok actions.Checkpoint) h = roomy_onward p n l
 action_onward p n lines f below t (Ok (actions.Ask a)) h = (λ r. taken_onward p n lines f below t h a.reply_use r, (asked_onward p n lines f below t h).1)
 action_onward p n lines f below t (Err l) h = roomy_onward p n lines (suc lines) f f below t _ (omega arith) h h.above refl
 
-statement_onward : (p : ScriptParts) (n lines : ℕ) (f : Frame) (below : List Frame) (t : ThreadState) (x : stmt.Stmt) → Roomy p n lines f below t → AllOnward p n lines (statement_next p t f below x)
+statement_onward : (p : ScriptParts) (n lines : ℕ) (f : Frame) (below : List Frame) (t : ThreadState) (x : Stmt) → Roomy p n lines f below t → AllOnward p n lines (statement_next p t f below x)
 statement_onward p n lines f below t x h = action_onward p n lines f below t (action_of p t f x) h
 
-frame_onward : (p : ScriptParts) (lines : ℕ) (f : Frame) (below : List Frame) (s : ThreadState) (rest : List stmt.Stmt) → s.frames ≡ f ∷ below → s.call ≡ None → Few p lines s → AllOnward p (size p s) lines (frame_next p s f below rest)
+frame_onward : (p : ScriptParts) (lines : ℕ) (f : Frame) (below : List Frame) (s : ThreadState) (rest : List Stmt) → s.frames ≡ f ∷ below → s.call ≡ None → Few p lines s → AllOnward p (size p s) lines (frame_next p s f below rest)
 frame_onward p lines f below s [] above free h =
     let same : length s.frames ≡ suc (length below) = ap length above in
     let none_spare : spare s.frames ≡ 0 = ap spare above in

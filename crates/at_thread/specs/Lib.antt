@@ -4,3 +4,4 @@ pub mod Threads
 pub mod Runs
 pub mod Laws
 pub mod AnswerExamples
+pub mod Types

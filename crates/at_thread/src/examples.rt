@@ -3,10 +3,12 @@ ghost use Rattle.std.specs.Prelude.{◌≡◌, true, false};
 ghost use Rattle.std.specs.List.{list_all, list_any};
 ghost use Rattle.at_line.specs.declared.line.Local.TheVariants as locals;
 ghost use Rattle.at_thread.specs.Executions.{can_reply, stands_for};
-ghost use Rattle.at_thread.specs.AnswerExamples.{each_operation, full_there, full_not_there, worn_there, worn_not_there, own_lines, replies_there, replies_not_there};
+ghost use Rattle.at_thread.specs.AnswerExamples.{each_operation, full_there, full_not_there, worn_there};
+ghost use Rattle.at_thread.specs.AnswerExamples.{worn_not_there, own_lines, replies_there, replies_not_there};
 
-/// Lines that may stand in the place of an operation, and lines that may not: that the history has no room, for each write
-/// and no other; that a head can't be written any more, for each write of an object and no other; and no other line for any.
+/// Lines that may stand in the place of an operation, and lines that may not: that the history has no room, for each
+/// write and no other; that a head can't be written any more, for each write of an object and no other; and no other
+/// line for any.
 pub fn lines_in_place_of_operations()
     ensures full { list_all (λ o. stands_for o (locals.Full 4)) full_there ≡ true }
     ensures not_full { list_any (λ o. stands_for o (locals.Full 4)) full_not_there ≡ false }

@@ -1,5 +1,6 @@
 //! Laws of executions: what holds of every one. Each does nothing.
-ghost use Rattle.at_thread.specs.Laws.{RepliesDetermineExecutions, ExecutionsAreShort, NumbersHaveNoGap, OwnLinesNameNoLimit};
+ghost use Rattle.at_thread.specs.Laws.{RepliesDetermineExecutions, ExecutionsAreShort, NumbersHaveNoGap};
+ghost use Rattle.at_thread.specs.Laws.{OwnLinesNameNoLimit};
 
 /// Two executions from one state, whose operations have the same places, paths and replies, are the same list of lines
 /// and end alike: the script and the replies determine the rest.

@@ -2,7 +2,8 @@
 ghost use Rattle.std.specs.Prelude.{◌≡◌, ◌<◌, [], length, IfOk, slice_index_or};
 ghost use Rattle.at_thread.specs.Execution as execution;
 ghost use Rattle.at_thread.specs.Execution.{next_of, start};
-ghost use Rattle.at_thread.specs.Threads.{frame_of, state_of, with_frame, next_of_frame, next_of_statement, next_of_action, IsNext};
+ghost use Rattle.at_thread.specs.Threads.{frame_of, state_of, with_frame, next_of_frame, next_of_statement};
+ghost use Rattle.at_thread.specs.Threads.{next_of_action, IsNext};
 
 use crate::next::{Action, Call, Next, OnReturn, ReplyUse};
 use crate::stack::Stack;
@@ -222,8 +223,8 @@ impl<'a> Thread<'a> {
         Next::Silent
     }
 
-    /// What the thread demands next. After a demand `Asks` it goes on with `accept` or `decline`, and after each other with
-    /// `next`; a thread that has ended stays as it is. It takes no memory.
+    /// What the thread demands next. After a demand `Asks` it goes on with `accept` or `decline`, and after each other
+    /// with `next`; a thread that has ended stays as it is. It takes no memory.
     pub fn next(&mut self, script: &'a Script) -> Next
         ensures next { IsNext (next_of script.now (state_of self.old)) result self.new }
         ensures ended { result ≡ Next.Ended → state_of self.new ≡ state_of self.old }

@@ -1,7 +1,8 @@
 //! The tree of direct subclasses, and the walk over all that lies below a class.
 #![tactic(auto)]
 
-ghost use Rattle.std.specs.Prelude.{◌≡◌, ◌↔◌, ℕ, ◌<◌, false, [], ◌∷◌, ◌++◌, length, replicate, All, Contains, IsOk, IfOk, OnOk, OnErr, slice_set, slice_index_or};
+ghost use Rattle.std.specs.Prelude.{◌≡◌, ◌↔◌, ℕ, ◌<◌, false, [], ◌∷◌, ◌++◌, length, replicate, All, Contains, IsOk};
+ghost use Rattle.std.specs.Prelude.{IfOk, OnOk, OnErr, slice_set, slice_index_or};
 ghost use Rattle.at_tree.specs.Tree.{children, without_number, Reaches, IsTree};
 ghost use Rattle.at_tree.specs.Walk.{IsWalk, IsReachedFirst, AreClosed, IsUnmarkedFirst, walk_of};
 

@@ -18,7 +18,7 @@ use Rattle.at_value.specs.Fields.{number_of, bits_of, AreWithin, FitWord, FitWor
 use Rattle.at_value.specs.Packing.{IsBases, IsOp, heading_fields, row_fields, rows_fields, bases_fields, words_fields, words_of, HasWords}
 use Rattle.at_value.specs.Reading.{below, value_in_word}
 use Rattle.at_value.proofs.Words.{below_gives, word_exact, value_fits}
-use Rattle.at_value.specs.ReadingOps.{with_two, classes_in, classes_of_words, bases_from, heading_at, op_at}
+use Rattle.at_value.specs.ReadingOps.{with_two, classes_of_word, classes_of_words, bases_from, heading_at, op_at}
 
 -- One more number goes into the lowest bits: the word stays within the bits of all.
 pub word_grows : (width k word c : ℕ) → word < 2 ^ (width * k) → c < 2 ^ width → word * 2 ^ width + c < 2 ^ (width * suc k)
@@ -89,12 +89,12 @@ joined_base done c (Some more) = ap Some (append_assoc done (c ∷ []) more)
 -- a class that is read goes to the end of those that were read
 pub base_read : (width left n word low above c : ℕ) (done all : List ℕ) (o : Option (List ℕ)) → left ≡ suc n → low ≡ word % 2 ^ width → above ≡ word / 2 ^ width
     → below classes low ≡ Some c → all ≡ done ++ c ∷ []
-    → option_map (λ more. done ++ more) (classes_in width left word) ≡ o → option_map (λ more. all ++ more) (classes_in width n above) ≡ o
+    → option_map (λ more. done ++ more) (classes_of_word width left word) ≡ o → option_map (λ more. all ++ more) (classes_of_word width n above) ≡ o
 base_read width left n word low above c done all o e is_low is_above class grown was =
-    let now : option_map (λ more. done ++ more) (classes_in width (suc n) word) ≡ o = rw e at was in
+    let now : option_map (λ more. done ++ more) (classes_of_word width (suc n) word) ≡ o = rw e at was in
     let read : below classes (word % 2 ^ width) ≡ Some c = rw is_low at class in
-    let now' : option_map (λ more. done ++ more) (with_two (λ b bs. b ∷ bs) (Some c) (classes_in width n (word / 2 ^ width))) ≡ o = rw read at now in
-    rw (grown, is_above) (joined_base done c (classes_in width n (word / 2 ^ width)) ∙ now')
+    let now' : option_map (λ more. done ++ more) (with_two (λ b bs. b ∷ bs) (Some c) (classes_of_word width n (word / 2 ^ width))) ≡ o = rw read at now in
+    rw (grown, is_above) (joined_base done c (classes_of_word width n (word / 2 ^ width)) ∙ now')
 
 -- what holds of a success, where what holds of an error is false
 pub ok_of : {A E P Q : Type 0} (r : Result A E) → OnOk r P → OnErr r Q → ¬ Q → P
@@ -116,33 +116,33 @@ less_min left each =
     ]
 
 -- as many as were asked for are read
-classes_in_length : (width n word : ℕ) (row : List ℕ) → classes_in width n word ≡ Some row → length row ≡ n
-classes_in_length width zero word row e = let same : [] ≡ row = cc in rw (← same) refl
-classes_in_length width (suc n) word row e = elim (below classes (word % 2 ^ width)) as (λ first. with_two (λ c cs. c ∷ cs) first (classes_in width n (word / 2 ^ width)) ≡ Some row → length row ≡ suc n) [
+classes_of_word_length : (width n word : ℕ) (row : List ℕ) → classes_of_word width n word ≡ Some row → length row ≡ n
+classes_of_word_length width zero word row e = let same : [] ≡ row = cc in rw (← same) refl
+classes_of_word_length width (suc n) word row e = elim (below classes (word % 2 ^ width)) as (λ first. with_two (λ c cs. c ∷ cs) first (classes_of_word width n (word / 2 ^ width)) ≡ Some row → length row ≡ suc n) [
   | None ↦ λ e. absurd (cc)
-  | Some c ↦ λ e. elim (classes_in width n (word / 2 ^ width)) as (λ rest. classes_in width n (word / 2 ^ width) ≡ rest → with_two (λ c cs. c ∷ cs) (Some c) rest ≡ Some row → length row ≡ suc n) [
+  | Some c ↦ λ e. elim (classes_of_word width n (word / 2 ^ width)) as (λ rest. classes_of_word width n (word / 2 ^ width) ≡ rest → with_two (λ c cs. c ∷ cs) (Some c) rest ≡ Some row → length row ≡ suc n) [
     | None ↦ λ _ e. absurd (cc)
     | Some cs ↦ λ here e.
         let same : c ∷ cs ≡ row = cc in
-        rw (← same) (ap suc (classes_in_length width n (word / 2 ^ width) cs here))
+        rw (← same) (ap suc (classes_of_word_length width n (word / 2 ^ width) cs here))
   ] refl e
 ] e
 
 -- a row that is read goes after the classes that were read
 pub row_read : (width each left here word : ℕ) (words all_words done all : List ℕ) (o : Option (List ℕ)) → here ≡ min left each → all_words ≡ word ∷ words
-    → option_map (λ row. done ++ row) (classes_in width here word) ≡ Some all
+    → option_map (λ row. done ++ row) (classes_of_word width here word) ≡ Some all
     → option_map (λ more. done ++ more) (classes_of_words width each left all_words) ≡ o
     → (length all + (left - here) ≡ length done + left) × (option_map (λ more. all ++ more) (classes_of_words width each (left - here) words) ≡ o)
 row_read width each left here word words all_words done all o is_here is_all grown was =
     let within : here ≤ left = rw is_here (min-le_left left each) in
     let left_over : left - here ≡ left - each = rw is_here (less_min left each) in
-    let was' : option_map (λ more. done ++ more) (with_two (λ prefix rest. prefix ++ rest) (classes_in width here word) (classes_of_words width each (left - each) words)) ≡ o = rw is_here (rw is_all at was) in
-    elim (classes_in width here word) as (λ read. classes_in width here word ≡ read → option_map (λ row. done ++ row) read ≡ Some all
+    let was' : option_map (λ more. done ++ more) (with_two (λ prefix rest. prefix ++ rest) (classes_of_word width here word) (classes_of_words width each (left - each) words)) ≡ o = rw is_here (rw is_all at was) in
+    elim (classes_of_word width here word) as (λ read. classes_of_word width here word ≡ read → option_map (λ row. done ++ row) read ≡ Some all
     → option_map (λ more. done ++ more) (with_two (λ prefix rest. prefix ++ rest) read (classes_of_words width each (left - each) words)) ≡ o
     → (length all + (left - here) ≡ length done + left) × (option_map (λ more. all ++ more) (classes_of_words width each (left - here) words) ≡ o)) [
       | Some row ↦ λ read grown was.
           let same : done ++ row ≡ all = cc in
-          let long : length all ≡ length done + here = rw (← same) (length-append done row ∙ ap (λ n. length done + n) (classes_in_length width here word row read)) in
+          let long : length all ≡ length done + here = rw (← same) (length-append done row ∙ ap (λ n. length done + n) (classes_of_word_length width here word row read)) in
           (omega arith, rw (left_over, ← same) (joined_rows done row (classes_of_words width each (left - each) words) ∙ was))
       | None ↦ λ read grown was. absurd (cc)
     ] refl grown was'
@@ -169,7 +169,7 @@ head_back k s t n k_fits s_fits t_fits n_fits =
     ) refl
 
 -- classes are read back, where the width holds each
-classes_back : (width : ℕ) → classes ≤ 2 ^ width → (bases : List ℕ) → AreClasses bases → classes_in width (length bases) (number_of (row_fields width bases)) ≡ Some bases
+classes_back : (width : ℕ) → classes ≤ 2 ^ width → (bases : List ℕ) → AreClasses bases → classes_of_word width (length bases) (number_of (row_fields width bases)) ≡ Some bases
 classes_back width wide [] h = refl
 classes_back width wide (c ∷ cs) h =
     let small : c < 2 ^ width = omega (arith, h 0) in
@@ -183,7 +183,7 @@ rows_back : (width each : ℕ) → classes ≤ 2 ^ width → (words : ℕ) (base
 rows_back width each wide zero [] h fits = refl
 rows_back width each wide zero (c ∷ cs) h fits = absurd (omega arith)
 rows_back width each wide (suc words) bases h fits =
-    let prefix : classes_in width (length (take each bases)) (number_of (row_fields width (take each bases))) ≡ Some (take each bases) = classes_back width wide (take each bases) (are_classes_before each bases h) in
+    let prefix : classes_of_word width (length (take each bases)) (number_of (row_fields width (take each bases))) ≡ Some (take each bases) = classes_back width wide (take each bases) (are_classes_before each bases h) in
     let here : min (length bases) each ≡ length (take each bases) = sym (length-take each bases ∙ min_comm each (length bases)) in
     let left : length bases - each ≡ length (drop each bases) = sym (length-drop each bases) in
     let fits' : length (drop each bases) ≤ words * each = let left' = left in omega arith in

@@ -11,3 +11,4 @@ pub mod Words
 pub mod Reading
 pub mod Packing
 pub mod ReadingOps
+pub mod Types

@@ -18,15 +18,15 @@ with_three make None b c = None
 with_three make (Some a) b c = with_two (make a) b c
 
 -- the first n classes in a word, each in a field of the width
-abbrev pub classes_in : ℕ → ℕ → ℕ → Option (List ℕ)
-classes_in width zero word = Some []
-classes_in width (suc n) word = with_two (λ c cs. c ∷ cs) (below classes (word % 2 ^ width)) (classes_in width n (word / 2 ^ width))
+abbrev pub classes_of_word : ℕ → ℕ → ℕ → Option (List ℕ)
+classes_of_word width zero word = Some []
+classes_of_word width (suc n) word = with_two (λ c cs. c ∷ cs) (below classes (word % 2 ^ width)) (classes_of_word width n (word / 2 ^ width))
 
 -- the first `count` classes in these words, `each` a word and each class in a field of the width
 abbrev pub classes_of_words : (width each count : ℕ) → List ℕ → Option (List ℕ)
 classes_of_words width each count [] = Some []
 classes_of_words width each count (word ∷ words) =
-    with_two (λ row rest. row ++ rest) (classes_in width (min count each) word) (classes_of_words width each (count - each) words)
+    with_two (λ row rest. row ++ rest) (classes_of_word width (min count each) word) (classes_of_words width each (count - each) words)
 
 -- the first `count` bases in these words
 abbrev pub bases_from : ℕ → List ℕ → Option (List ℕ)

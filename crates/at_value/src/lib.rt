@@ -1,5 +1,5 @@
 //! The vocabulary of the data model: numbers of names, classes, objects and functions, values, operations and replies,
-//! the words of values and operations, and the short lists and the map that they are kept in.
+//! the words of values and operations, and the short lists and the map that they stand in.
 #![tactic(auto)]
 
 mod bits;

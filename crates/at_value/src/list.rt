@@ -1,5 +1,6 @@
 //! Short lists of classes. Contracts see each as the list of the classes' numbers.
-ghost use Rattle.std.specs.Prelude.{◌≡◌, ◌<◌, ◌≤◌, ℕ, List, [], ◌∷◌, ◌++◌, length, IfOk, IsOk, IsTrue, ◌↔◌, OnOk, OnErr, slice_get};
+ghost use Rattle.std.specs.Prelude.{◌≡◌, ◌<◌, ◌≤◌, ℕ, List, [], ◌∷◌, ◌++◌, length, IfOk, IsOk, IsTrue, ◌↔◌, OnOk};
+ghost use Rattle.std.specs.Prelude.{OnErr, slice_get};
 ghost use Rattle.at_value.specs.Classes.{AreClasses};
 ghost use Rattle.at_value.specs.Widths.{most_bases};
 

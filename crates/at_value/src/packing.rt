@@ -1,11 +1,13 @@
 //! Operations as four words of 64 bits, for tables of words that several threads share.
-ghost use Rattle.std.specs.Prelude.{◌≡◌, ◌<◌, ◌≤◌, ◌^◌, ◌++◌, Some, None, option_map, ◌+◌, ◌↔◌, IfSome, IfNone, OnSome, length, map, take, drop, min, [], ◌∷◌};
+ghost use Rattle.std.specs.Prelude.{◌≡◌, ◌<◌, ◌≤◌, ◌^◌, ◌++◌, Some, None, option_map, ◌+◌, ◌↔◌, IfSome, IfNone, OnSome};
+ghost use Rattle.std.specs.Prelude.{length, map, take, drop, min, [], ◌∷◌};
 ghost use Rattle.at_value.specs.declared.operation.Op as ops;
 ghost use Rattle.at_value.specs.Classes.{AreClasses};
 ghost use Rattle.at_value.specs.Widths.{most_bases, operation_bits, base_bits, bases_a_word};
 ghost use Rattle.at_value.specs.Fields.{number_of, FitWords};
-ghost use Rattle.at_value.specs.Packing.{IsClass, IsBases, IsOp, heading_fields, row_fields, bases_fields, words_fields, words_of, HasWords};
-ghost use Rattle.at_value.specs.ReadingOps.{classes_in, bases_from, heading_at, op_at};
+ghost use Rattle.at_value.specs.Packing.{IsClass, IsBases, IsOp, heading_fields, row_fields, bases_fields};
+ghost use Rattle.at_value.specs.Packing.{words_fields, words_of, HasWords};
+ghost use Rattle.at_value.specs.ReadingOps.{classes_of_word, bases_from, heading_at, op_at};
 
 use crate::bits::{joined, split};
 use crate::list::Bases;
@@ -126,8 +128,8 @@ fn words_of_bases(bases: &[Class]) -> [u64; BASES_WORDS]
 fn read_row(bases: &mut Bases, count: usize, word: u64) -> Option<()>
     requires { length bases.old + count ≤ most_bases }
     ensures some { OnSome result
-        (option_map (λ row. bases.old ++ row) (classes_in base_bits count word) ≡ Some bases.new) }
-    ensures none { IfNone result (classes_in base_bits count word ≡ None) }
+        (option_map (λ row. bases.old ++ row) (classes_of_word base_bits count word) ≡ Some bases.new) }
+    ensures none { IfNone result (classes_of_word base_bits count word ≡ None) }
 {
     let mut left = word;
     for _ in 0..count {
@@ -154,8 +156,8 @@ fn bases_of(count: u64, words: &[u64; BASES_WORDS]) -> Option<Bases>
     Some(bases)
 }
 
-/// The four words of an operation: its kind, the class or object that it is done to, a second class, object or number of
-/// bases, and its name in word 0; its value in word 1, or its bases in the words after word 0. What an operation
+/// The four words of an operation: its kind, the class or object that it is done to, a second class, object or number
+/// of bases, and its name in word 0; its value in word 1, or its bases in the words after word 0. What an operation
 /// doesn't have is 0. The layout is this project's own, and stands in `docs/DATA_MODEL.md`, "Words".
 pub fn pack(op: &Op) -> [u64; 4]
     ensures words { result ≡ words_of op.now }

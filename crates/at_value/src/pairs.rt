@@ -9,7 +9,7 @@ use crate::value::Value;
 use std::alloc::{AllocError, Global};
 use std::marker::Model;
 
-/// A map from names to values, kept by rising name number.
+/// A map from names to values, in the order of rising name numbers.
 #[derive(Drop, Debug)]
 pub struct Pairs {
     items: Vec<(Name, Value)>,

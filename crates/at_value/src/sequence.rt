@@ -4,7 +4,7 @@ ghost use Rattle.std.specs.Option.{option_copied};
 
 use std::marker::Model;
 
-/// A list whose items stay as they are. It hides how they are kept.
+/// A list whose items stay as they are. It hides how they are stored.
 #[derive(Drop, Debug)]
 pub struct Sequence<T> {
     items: Vec<T>,
@@ -47,7 +47,7 @@ impl<T> Sequence<T> {
         self.items.get(i)
     }
 
-    /// The items, in order, for a caller that may know that they are kept as a slice.
+    /// The items, in order, for a caller that may know that they are stored as a slice.
     pub fn items(&self) -> &[T]
         ensures { result.now ≡ self.now }
     {

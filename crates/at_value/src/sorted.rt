@@ -1,6 +1,7 @@
 //! A map from names to values as a vector of pairs by rising name number: the search, the insertion and the removal of
 //! the types that wrap such a vector.
-ghost use Rattle.std.specs.Prelude.{◌≡◌, ◌<◌, ◌≤◌, ◌↔◌, IsTrue, IsOk, IsSome, length, OnOk, OnErr, vec_len, vec_capacity};
+ghost use Rattle.std.specs.Prelude.{◌≡◌, ◌<◌, ◌≤◌, ◌↔◌, IsTrue, IsOk, IsSome, length, OnOk, OnErr, vec_len};
+ghost use Rattle.std.specs.Prelude.{vec_capacity};
 ghost use Rattle.at_value.specs.Pairs.{IsRising, value_at, with_value, without, place_in};
 
 use crate::number::Name;
@@ -63,7 +64,7 @@ pub fn put(n: Name, v: Value, items: &mut Vec<(Name, Value)>) -> Result<(), Allo
     Ok(())
 }
 
-/// Takes the name out, and gives the value that stood there. The vector keeps its memory.
+/// Takes the name out, and gives the value that stood there. The vector's memory stays with it.
 pub fn cut(n: Name, items: &mut Vec<(Name, Value)>) -> Option<Value>
     requires { IsRising items.old.items }
     ensures rising { IsRising items.new.items }

@@ -11,7 +11,8 @@ use std::marker::Model;
 /// A property: a function for reading, one for writing and one for deleting, each where it is given, after the
 /// built-in `property` of Python. Contracts see a record of three options, `get`, `set` and `del`.
 ///
-/// Each part is stored as the function's number and one more, and 0 where it isn't given, so that a `Value` stays small.
+/// Each part is stored as the function's number and one more, and 0 where it isn't given, so that a `Value` stays
+/// small.
 #[derive(Clone, Copy, Debug, PartialEq, Eq)]
 pub struct Prop {
     get: u16,

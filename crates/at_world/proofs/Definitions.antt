@@ -11,7 +11,7 @@ use Rattle.at_value.specs.declared.reply.Reply.TheVariants as replies
 use Rattle.at_value.specs.Widths as widths
 use Rattle.at_model.specs.declared.rows.ClassRow.{ClassRow}
 use Rattle.at_model.specs.declared.rows.Object.{Object}
-use Rattle.at_model.specs.World.{World, Map, row_of, order_in, order_of, opening}
+use Rattle.at_model.specs.World.{World, Map, row_of, new_row, order_in, order_of, opening}
 use Rattle.at_model.specs.Attributes.{Outcome}
 use Rattle.at_model.specs.Step.{with_names, with_class, unless_unordered, if_ordered}
 use Rattle.at_model.specs.StoredOrders.{AreOrders}
@@ -23,20 +23,20 @@ use Rattle.at_model.proofs.StoredOrders.{defined_order, AreOrders-defined, AreOr
 pub gathered_order : (classes : List (Option ClassRow)) (orders lists : List (List ℕ)) (c n : ℕ) (bases items : List ℕ)
     → AreOrders classes orders → row_of classes c ≡ None → c < length classes → IsTrue (list_all (λ b. is_some (row_of classes b)) bases)
     → n ≡ c → items ≡ bases → lists ≡ orders
-    → order_in (set classes c (Some (record { bases = bases; own = [] }))) c ≡ order_of_lists n items (map (λ b. get_or lists b []) items)
+    → order_in (set classes c (Some (new_row bases))) c ≡ order_of_lists n items (map (λ b. get_or lists b []) items)
 gathered_order classes orders lists c n bases items are free below made is_c are_bases are_lists =
-    defined_order classes orders c (record { bases = bases; own = [] }) are free below made ∙ rw (is_c, are_bases, are_lists) refl
+    defined_order classes orders c (new_row bases) are free below made ∙ rw (is_c, are_bases, are_lists) refl
 
 -- with the new class and its order
 pub IsCoherent-defined : (classes : List (Option ClassRow)) (orders : List (SmallVec ℕ)) (objects : List Object) (dicts : List Map) (c i : ℕ) (bases : List ℕ) (own : Map) (order : SmallVec ℕ)
     → IsCoherent classes (lists_of orders) objects dicts → row_of classes c ≡ None → c < widths.classes
-    → order_in (set classes c (Some (record { bases = bases; own = [] }))) c ≡ Some order.items → i ≡ c → own ≡ []
-    → IsCoherent (set classes i (Some (record { bases = bases; own = own }))) (lists_of (set orders i order)) objects dicts
+    → order_in (set classes c (Some (new_row bases))) c ≡ Some order.items → i ≡ c → own ≡ []
+    → IsCoherent (set classes i (Some (record (new_row bases) { own = own }))) (lists_of (set orders i order)) objects dicts
 IsCoherent-defined classes orders objects dicts c i bases own order coherent free below is at empty =
     rw (at, empty, map-set) (record {
-      numbered = length-set classes c (Some (record { bases = bases; own = [] })) ∙ coherent.numbered;
+      numbered = length-set classes c (Some (new_row bases)) ∙ coherent.numbered;
       ordered = length-set (lists_of orders) c order.items ∙ coherent.ordered;
-      orders_are = AreOrders-defined classes (lists_of orders) c (record { bases = bases; own = [] }) order.items coherent.orders_are free (omega (arith, coherent.numbered)) (omega (arith, coherent.ordered)) is;
+      orders_are = AreOrders-defined classes (lists_of orders) c (new_row bases) order.items coherent.orders_are free (omega (arith, coherent.numbered)) (omega (arith, coherent.ordered)) is;
       few = coherent.few;
       named = coherent.named;
     })
@@ -55,7 +55,7 @@ pub defined_state : (classes : List (Option ClassRow)) (orders : List (List ℕ)
     → AreOrders classes orders → row_of classes c ≡ None → (let w : World = record { classes = classes; objects = objects; dicts = dicts } in
     order_of (with_class w c bases) c ≡ Some order → i ≡ c → own ≡ []
     → (replies.Done ≡ (if_ordered w (with_class w c bases)).reply)
-    × (let now : PlainState = record { world = record { classes = set classes i (Some (record { bases = bases; own = own })); objects = objects; dicts = dicts }; place = place } in
+    × (let now : PlainState = record { world = record { classes = set classes i (Some (record (new_row bases) { own = own })); objects = objects; dicts = dicts }; place = place } in
     now ≡ record { world = (if_ordered w (with_class w c bases)).world; place = place }))
 defined_state classes orders objects dicts place c i bases order own are free is at empty =
     let w : World = record { classes = classes; objects = objects; dicts = dicts } in

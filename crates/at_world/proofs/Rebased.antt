@@ -6,7 +6,7 @@ use Rattle.at_value.specs.declared.reply.Reply.TheVariants as replies
 use Rattle.at_value.specs.Widths as widths
 use Rattle.at_model.specs.declared.rows.ClassRow.{ClassRow}
 use Rattle.at_model.specs.declared.rows.Object.{Object}
-use Rattle.at_model.specs.World.{World, Map, row_of, own_of, order_of}
+use Rattle.at_model.specs.World.{World, Map, row_of, row_or_empty, order_of}
 use Rattle.at_model.specs.Attributes.{Outcome}
 use Rattle.at_model.specs.Step.{is_made, are_made, is_empty, first_unordered_from, first_unordered, unless_unordered, if_ordered, rebased, with_bases}
 use Rattle.at_world.specs.Plain.{PlainState, IsCoherent, order_or_none}
@@ -47,7 +47,7 @@ pub rebased_first : (w : World) (c : ℕ) (bases : List ℕ) (orders : List (Lis
     → AreNewOrders (rebased w.classes c bases) orders → first_unordered (with_bases w c bases) ≡ first_empty 0 w.classes orders
 rebased_first w c bases orders made are =
     let changed = rebased w.classes c bases in
-    first_same (with_bases w c bases) orders 0 w.classes changed (sym (length-set w.classes c (Some (record { bases = bases; own = own_of (row_of w.classes c) }))))
+    first_same (with_bases w c bases) orders 0 w.classes changed (sym (length-set w.classes c (Some (record (row_or_empty (row_of w.classes c)) { bases = bases }))))
     (λ i. sym (made-rebased w.classes c bases made i))
     (λ i d at there. let e : d ≡ i = omega arith in are d (ap (λ x. is_some (row_of changed x)) e ∙ there))
 
@@ -63,7 +63,7 @@ IsCoherent-rebased classes was orders objects dicts c bases coherent made are lo
     let w : World = record { classes = classes; objects = objects; dicts = dicts } in
     let all = ordered-from_none (with_bases w c bases) (rebased_first w c bases orders made are ∙ none) in
     record {
-      numbered = length-set classes c (Some (record { bases = bases; own = own_of (row_of classes c) })) ∙ coherent.numbered;
+      numbered = length-set classes c (Some (record (row_or_empty (row_of classes c)) { bases = bases })) ∙ coherent.numbered;
       ordered = long;
       orders_are = λ d there.
           let found = all d there in

@@ -115,7 +115,7 @@ pub renewed_first : (classes : List (Option ClassRow)) (was : List (List ℕ)) (
     → c < length was → order_or_none order ≡ order_by was c bases
     → AreRenewed (rebased classes c bases) classes was c 0 0 (set was c order)
 renewed_first classes was c bases order are made apart room is =
-    let row : ClassRow = record { bases = bases; own = own_of (row_of classes c) } in
+    let row : ClassRow = record (row_or_empty (row_of classes c)) { bases = bases } in
     let changed = rebased classes c bases in
     let all = and_parts (is_some (row_of classes c)) (list_all (λ x. is_some (row_of classes x)) bases) made in
     let each : (b : ℕ) → has b bases ≡ true → IsNewOrder changed was b = λ b at.
@@ -194,7 +194,7 @@ pub renewed_due : (classes : List (Option ClassRow)) (was : List (List ℕ)) (c 
 renewed_due classes was c long i bases orders row order are so_far due room is =
     let changed = rebased classes c bases in
     let found = due_parts classes was c long i row due in
-    let at : row_of changed i ≡ Some row = get_or-set_other classes c i (Some (record { bases = bases; own = own_of (row_of classes c) })) None found.0 ∙ found.2 in
+    let at : row_of changed i ≡ Some row = get_or-set_other classes c i (Some (record (row_or_empty (row_of classes c)) { bases = bases })) None found.0 ∙ found.2 in
     let each : (b : ℕ) → has b row.bases ≡ true → IsNewOrder changed orders b = λ b base.
     let shorter = base_is_shorter classes was i b row are found.2 base in so_far.shorter b shorter.0 (omega (arith, shorter.1, found.1)) in
     let here : IsNewOrder changed (set orders i order) i =

@@ -1,5 +1,5 @@
-//! The data model run as it is written: `Plain`, a world and the operations on it one after another. The rows, lines and
-//! namespaces that go with it are those of the crates below.
+//! The data model run as it is written: `Plain`, a world and the operations on it one after another. The rows, lines
+//! and namespaces that go with it are those of the crates below.
 #![tactic(auto)]
 
 mod plain;

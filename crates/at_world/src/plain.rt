@@ -3,7 +3,7 @@ ghost use Rattle.std.specs.Prelude.{◌≡◌, ◌-◌, ◌∷◌, [], false, Is
 ghost use Rattle.at_value.specs.Widths as widths;
 ghost use Rattle.at_model.specs.World as world;
 ghost use Rattle.at_model.specs.Step as steps;
-ghost use Rattle.at_world.specs.Plain.{IsStepped, IsOutcome, lists_of, takes_memory};
+ghost use Rattle.at_world.specs.Plain.{IsStepped, IsOutcome, lists_of, sets_known_name, takes_memory, wants_memory};
 
 mod classes;
 mod ending;
@@ -68,13 +68,13 @@ impl Plain {
     /// The reply to an operation, which takes the world with it. A write, whose reply is `Done` or `Made`, counts one
     /// place more. Where the operation is refused, and where memory runs out, world and count are as they were. Only an
     /// operation that makes a class or an object, sets a value or bases, or replies an order may take memory, and none
-    /// does where an object or a class that it names isn't made.
+    /// does where the name to be set is there, nor before a refusal is found, but for `NoOrder`.
     ///
     /// The refusals are tried in this order: `NoAttr` for an object that isn't made, `NoClass` for a class that isn't,
-    /// `NameTaken`, `Immutable` where `object` would be changed or have objects, `EmptyBases`, `Duplicate`, `Cycle` where
-    /// a class would stand above itself, `NoOrder` with the least class that would have no order, `Full` from 4,096
-    /// objects on, and then what the attribute tables refuse. New bases are judged by the orders that all classes have
-    /// at the end of the change.
+    /// `NameTaken`, `Immutable` where `object` would be changed or have objects, `EmptyBases`, `Duplicate`, `Cycle`
+    /// where a class would stand above itself, `NoOrder` with the least class that would have no order, `Full` from
+    /// 4,096 objects on, and then what the attribute tables refuse. New bases are judged by the orders that all
+    /// classes have at the end of the change.
     ///
     /// After the Python language reference, "Objects, values and types", "Custom classes", "Customizing attribute
     /// access" and "Special method lookup"; the orders after Barrett and others, "A Monotonic Superclass Linearization
@@ -85,6 +85,8 @@ impl Plain {
         ensures room { takes_memory op.now ≡ false → IsOk result }
         ensures no_object { steps.are_objects self.old.world (steps.objects_in op.now) ≡ false → IsOk result }
         ensures no_class { steps.are_made self.old.world (steps.classes_in op.now) ≡ false → IsOk result }
+        ensures there { IsTrue (sets_known_name self.old.world op.now) → IsOk result }
+        ensures refused { wants_memory (steps.step self.old.world op.now).reply ≡ false → IsOk result }
     {
         if !self.has_objects(op) {
             return Ok(Reply::NoAttr);
@@ -111,6 +113,8 @@ impl Plain {
         ensures ok { IfOk result (IsOutcome (steps.effect self.old.world op.now) self.old self.new) }
         ensures err { OnErr result (self.new ≡ self.old) }
         ensures room { takes_memory op.now ≡ false → IsOk result }
+        ensures there { IsTrue (sets_known_name self.old.world op.now) → IsOk result }
+        ensures refused { wants_memory (steps.effect self.old.world op.now).reply ≡ false → IsOk result }
     {
         match op {
             Op::NewClass(c, bases) => self.new_class(*c, bases),

@@ -157,3 +157,7 @@ abbrev pub IsUsageAnswer : SourceChange → SinkChange → status.Status → Typ
 IsUsageAnswer r w statuses.Usage = ReadNothing r × Wrote w usage_text
 IsUsageAnswer r w statuses.WriteFault = ReadNothing r × FailedWriting w usage_text
 IsUsageAnswer r w _ = ⊥
+
+-- what is so where the words, for which memory may be refused, are no command
+abbrev pub IsNoCommandAnswer : SourceChange → SinkChange → status.Status → Type 0
+IsNoCommandAnswer r w said = IsUsageAnswer r w said ⊎ ((said ≡ statuses.NoMemory) × ReadNothing r × WroteNothing w)

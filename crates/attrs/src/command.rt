@@ -1,29 +1,36 @@
 //! The commands of the program.
-ghost use Rattle.std.specs.Prelude.{◌≡◌, ◌≤◌, ◌↔◌, ◌∷◌, [], ◌⊎◌, Some, IsTrue, map, codes, string_bytes};
+ghost use Rattle.std.specs.Prelude.{◌≡◌, ◌≤◌, ◌↔◌, ◌∷◌, [], ◌⊎◌, Some, IfOk, IsTrue, OnErr};
+ghost use Rattle.std.specs.Prelude.{drop, map, codes, string_bytes};
+ghost use Rattle.std.specs.Vec.Iter.{into_iter_items};
 ghost use Rattle.at_script.specs.Script.{script_of};
 ghost use Rattle.at_run.specs.PlainRun.{IsPlainRun};
 ghost use Rattle.at_run.specs.LegalRun.{IsLegalRun};
-ghost use Rattle.attrs.specs.Answers.{SourceChange, source_change, sink_change, ReadNothing, ReadTooMany, Wrote, FailedWriting, WroteNothing, IsAnswer, IsTextAnswer, IsUsageAnswer, refusal_text};
+ghost use Rattle.attrs.specs.Answers.{SourceChange, source_change, sink_change, ReadNothing, ReadTooMany, Wrote};
+ghost use Rattle.attrs.specs.Answers.{FailedWriting, WroteNothing, IsAnswer, IsTextAnswer, IsUsageAnswer};
+ghost use Rattle.attrs.specs.Answers.{IsNoCommandAnswer, refusal_text};
 
 use crate::gate::Gate;
 use crate::status::Status;
 use crate::telling::{refusal, tell};
+use crate::words::given_words;
 use at_run::run_main;
 use at_script::{Cause, ReadFault, Script};
 use at_source::{ReadAllFault, Sink, Source, read_all};
 use at_text::{PrintFault, print};
 use std::alloc::Global;
+use std::env::Args;
+use std::io;
 use std::sync::Wait;
 use std::thread::Threads;
 
 /// How many bytes are too many for a script: one more than it may have.
 pub(crate) const TOO_MANY: usize = 1_048_577;
 
-/// Does what the words say. `run` reads a script to the end of the source, runs it, and writes the transcript of one legal
-/// history: each write has its own place, the lines run the script, every reply is what the data model gives after just
-/// that many writes, and the namespaces printed last are those after all of them. Any other words are no command: nothing
-/// is read, and the usage line is written. What was written whole is flushed, and then neither the source nor the sink
-/// failed in this call.
+/// Does what the words say. `run` reads a script to the end of the source, runs it, and writes the transcript of one
+/// legal history: each write has its own place, the lines run the script, every reply is what the data model gives
+/// after just that many writes, and the namespaces printed last are those after all of them. Any other words are no
+/// command: nothing is read, and the usage line is written. What was written whole is flushed, and then neither the
+/// source nor the sink failed in this call.
 pub fn attrs<R: Wait + Threads + Sync, S: Source, K: Sink, G: Gate + Sync>(
     _rt: &R,
     alloc: Global,
@@ -49,6 +56,34 @@ pub fn attrs<R: Wait + Threads + Sync, S: Source, K: Sink, G: Gate + Sync>(
     }
 }
 
+/// Does what the words after the program's name say, of the arguments that the environment gives. Where they can't be
+/// read, they are no command. Where there is no memory for the words, nothing is read and nothing written.
+pub fn start<R: Wait + Threads + Sync, S: Source, K: Sink, G: Gate + Sync>(
+    rt: &R,
+    alloc: Global,
+    arguments: io::Result<Args>,
+    src: &mut S,
+    out: &mut K,
+    gate: &G,
+) -> Status
+    ensures run { IfOk arguments (λ all. map string_bytes (drop 1 (into_iter_items all)) ≡ codes "run" ∷ [] →
+        IsAnswer IsLegalRun (source_change S.left S.faults src.old src.new)
+        (sink_change K.written K.is_flushed K.faults out.old out.new) result) }
+    ensures usage { IfOk arguments (λ all. ¬ (map string_bytes (drop 1 (into_iter_items all)) ≡ codes "run" ∷ []) →
+        IsNoCommandAnswer (source_change S.left S.faults src.old src.new)
+        (sink_change K.written K.is_flushed K.faults out.old out.new) result) }
+    ensures no_text { OnErr arguments (IsNoCommandAnswer (source_change S.left S.faults src.old src.new)
+        (sink_change K.written K.is_flushed K.faults out.old out.new) result) }
+
+    // No count of faults falls.
+    ensures later { (S.faults src.old ≤ S.faults src.new) × (K.faults out.old ≤ K.faults out.new) }
+{
+    let Ok(words) = given_words(alloc, arguments) else {
+        return Status::NoMemory;
+    };
+    attrs(rt, alloc, &words, src, out, gate)
+}
+
 fn is_run(words: &[String]) -> bool
     ensures { IsTrue result ↔ (map string_bytes words.now ≡ codes "run" ∷ []) }
 {
@@ -68,7 +103,8 @@ fn usage<K: Sink>(out: &mut K) -> Status
 
 /// Reads a script to the end of the source, runs its block `main` on the plain data model, and writes the transcript.
 /// It waits for nobody. Bytes that are no script, and more bytes than a script may have, are refused by a line on the
-/// sink. A fault is answered only where the source or the sink failed in this call, and what was written whole is flushed.
+/// sink. A fault is answered only where the source or the sink failed in this call, and what was written whole is
+/// flushed.
 pub fn plain_text<S: Source, K: Sink>(alloc: Global, src: &mut S, out: &mut K) -> Status
     ensures answer { IsAnswer IsPlainRun (source_change S.left S.faults src.old src.new)
         (sink_change K.written K.is_flushed K.faults out.old out.new) result }

@@ -1,5 +1,5 @@
-//! The program end to end, over sources and sinks in memory: the text that it writes, and how it ends. More scripts stand
-//! in `examples/`, each beside its transcript.
+//! The program end to end, over sources and sinks in memory: the text that it writes, and how it ends. More scripts
+//! stand in `examples/`, each beside its transcript.
 
 mod changes;
 mod judging;
@@ -19,8 +19,13 @@ use std::thread::Threads;
 
 const FIRST: &str = "attrs 1\nmain\nclass C\nput C.x 1\nnew a C\nget a.x\nget a.x\nend\n";
 
-const TRANSCRIPT: &str =
-    "attrs transcript 1\nscript 59\nattrs 1\nmain\nclass C\nput C.x 1\nnew a C\nget a.x\nget a.x\nend\n\nlines 5\nm 1 1 locked class C object = done\nm 2 2 locked put C.x 1 = done\nm 3 3 locked new C = made #0\nm 4 3 locked get #0.x = value 1\nm 5 3 locked get #0.x = value 1\nfinal\nclass object = object\nclass C = C object\n.x 1\nobject #0 C\nend\n";
+const TRANSCRIPT: &str = concat!(
+    "attrs transcript 1\nscript 59\n",
+    "attrs 1\nmain\nclass C\nput C.x 1\nnew a C\nget a.x\nget a.x\nend\n\n",
+    "lines 5\nm 1 1 locked class C object = done\nm 2 2 locked put C.x 1 = done\nm 3 3 locked new C = made #0\n",
+    "m 4 3 locked get #0.x = value 1\nm 5 3 locked get #0.x = value 1\n",
+    "final\nclass object = object\nclass C = C object\n.x 1\nobject #0 C\nend\n"
+);
 
 const NOT_A_SCRIPT: Status = Status::Refused(0, Cause::Script);
 

@@ -1,17 +1,34 @@
 //! The words that the program is started with.
-ghost use Rattle.std.specs.Prelude.{◌≡◌, ◌∷◌, [], drop, map, IfOk, OnErr, string_bytes};
+ghost use Rattle.std.specs.Prelude.{◌≡◌, ◌∷◌, [], drop, map, IfOk, IsOk, OnErr, string_bytes};
+ghost use Rattle.std.specs.Vec.Iter.{into_iter_items};
 
 use std::alloc::{AllocError, Global};
+use std::env::Args;
 use std::io::{self, ErrorKind};
 
-/// The words after the program's name, which comes first among the arguments. Where the arguments can't be read, since
-/// one of them isn't UTF-8, there is one empty word in their place, which no command is.
+/// The words after the program's name, which comes first among the arguments that the environment gives. Where they
+/// can't be read, since one of them isn't UTF-8, there is one empty word in their place, which no command is.
+pub fn given_words(alloc: Global, arguments: io::Result<Args>) -> Result<Vec<String>, AllocError>
+    ensures after_name { IfOk arguments (λ all. IfOk result (λ words. words.items ≡ drop 1 (into_iter_items all))) }
+    ensures no_text { OnErr arguments (IfOk result (λ words. map string_bytes words.items ≡ [] ∷ [])) }
+{
+    match arguments {
+        Ok(all) => {
+            let all: Vec<String> = all.collect(alloc)?;
+            words_from(alloc, Ok(all))
+        }
+        Err(error) => words_from(alloc, Err(error)),
+    }
+}
+
+/// The words after the program's name, of a list of arguments. Where the list could be read, this takes no memory.
 pub fn words_from(
     alloc: Global,
     arguments: io::Result<Vec<String>>,
 ) -> Result<Vec<String>, AllocError>
     ensures after_name { IfOk arguments (λ all. IfOk result (λ words. words.items ≡ drop 1 all.items)) }
     ensures no_text { OnErr arguments (IfOk result (λ words. map string_bytes words.items ≡ [] ∷ [])) }
+    ensures room { IsOk arguments → IsOk result }
 {
     match arguments {
         Ok(mut arguments) => {

@@ -1,10 +1,10 @@
 //! Operations that make classes, and that change their names.
-ghost use Rattle.std.specs.Prelude.{◌≡◌, Some, None, IsTrue, IfOk, OnOk, OnErr, IsErrOf, length};
+ghost use Rattle.std.specs.Prelude.{◌≡◌, false, Some, None, IsTrue, IsSome, IsOk, IfOk, OnOk, OnErr, IsErrOf, length};
 ghost use Rattle.at_value.specs.Pairs.{value_at};
 ghost use Rattle.at_value.specs.Widths as widths;
 ghost use Rattle.at_model.specs.World as world;
 ghost use Rattle.at_model.specs.Step as steps;
-ghost use Rattle.at_world.specs.Plain.{IsOutcome, with_name, without_name};
+ghost use Rattle.at_world.specs.Plain.{IsOutcome, wants_memory, with_name, without_name};
 
 use super::Plain;
 use super::orders::order_from;
@@ -19,6 +19,7 @@ impl Plain {
         requires { IsTrue (steps.are_made self.old.world bases.now) }
         ensures ok { IfOk result (IsOutcome (steps.new_class_effect self.old.world c bases.now) self.old self.new) }
         ensures err { OnErr result (self.new ≡ self.old) }
+        ensures refused { wants_memory (steps.new_class_effect self.old.world c bases.now).reply ≡ false → IsOk result }
     {
         if self.has_class(c) {
             return Ok(Reply::NameTaken);
@@ -69,6 +70,8 @@ impl Plain {
     pub(super) fn type_set(&mut self, c: Class, n: Name, v: Value) -> Result<Reply, AllocError>
         ensures ok { IfOk result (IsOutcome (steps.type_set_effect self.old.world c n v) self.old self.new) }
         ensures err { OnErr result (self.new ≡ self.old) }
+        ensures there { IsSome (value_at n (world.own_of (world.row_of self.old.world.classes c))) → IsOk result }
+        ensures refused { wants_memory (steps.type_set_effect self.old.world c n v).reply ≡ false → IsOk result }
     {
         if c == Class::object() {
             return Ok(Reply::Immutable);
@@ -111,6 +114,7 @@ fn put_own(classes: &mut [Option<ClassRow>], c: Class, n: Name, v: Value) -> Res
     requires { length classes.old ≡ widths.classes }
     ensures ok { OnOk result (classes.new ≡ with_name classes.old c n v) }
     ensures err { OnErr result (classes.new ≡ classes.old) }
+    ensures there { IsSome (value_at n (world.own_of (world.row_of classes.old c))) → IsOk result }
 {
     let i = usize::from(c.number());
     match &mut classes[i] {

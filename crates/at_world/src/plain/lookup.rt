@@ -1,5 +1,5 @@
 //! Look-ups: of classes, their orders, objects and dictionaries, and of names in them.
-ghost use Rattle.std.specs.Prelude.{◌≡◌, IfOk, length, nat_lt, slice_get};
+ghost use Rattle.std.specs.Prelude.{◌≡◌, None, IfOk, IsOk, length, nat_lt, slice_get};
 ghost use Rattle.std.specs.Option.{option_copied};
 ghost use Rattle.at_value.specs.Pairs.{value_at};
 ghost use Rattle.at_model.specs.World as world;
@@ -78,7 +78,8 @@ impl Plain {
     }
 
     pub(super) fn order_list(&self, c: Class) -> Result<Option<ClassList>, AllocError>
-        ensures { IfOk result (λ list. list ≡ world.order_of self.now.world c) }
+        ensures ok { IfOk result (λ list. list ≡ world.order_of self.now.world c) }
+        ensures none { world.order_of self.now.world c ≡ None → IsOk result }
     {
         match self.order_of(c) {
             Some(order) => Ok(Some(ClassList::of_numbers(self.alloc, order)?)),

@@ -1,11 +1,12 @@
 //! Operations that make and change objects.
-ghost use Rattle.std.specs.Prelude.{◌≡◌, ◌<◌, [], None, IfOk, OnOk, OnErr, slice_get, slice_set, slice_index_or, length};
+ghost use Rattle.std.specs.Prelude.{◌≡◌, ◌<◌, [], false, None, IfOk, IsOk, IsSome, IsTrue};
+ghost use Rattle.std.specs.Prelude.{OnOk, OnErr, slice_get, slice_set, slice_index_or, length};
 ghost use Rattle.at_value.specs.Pairs.{value_at, with_value, without};
 ghost use Rattle.at_desc.specs.Binding.{bound_set, bound_del};
 ghost use Rattle.at_model.specs.World as world;
 ghost use Rattle.at_model.specs.Attributes as attributes;
 ghost use Rattle.at_model.specs.Step as steps;
-ghost use Rattle.at_world.specs.Plain.{IsOutcome, own_deleted};
+ghost use Rattle.at_world.specs.Plain.{IsOutcome, is_in_dict, own_deleted, wants_memory};
 
 use super::Plain;
 use at_desc::{Step, bind_del, bind_set};
@@ -17,6 +18,7 @@ impl Plain {
     pub(super) fn new_object(&mut self, c: Class) -> Result<Reply, AllocError>
         ensures ok { IfOk result (IsOutcome (steps.new_effect self.old.world c) self.old self.new) }
         ensures err { OnErr result (self.new ≡ self.old) }
+        ensures refused { wants_memory (steps.new_effect self.old.world c).reply ≡ false → IsOk result }
     {
         if c == Class::object() {
             return Ok(Reply::Immutable);
@@ -34,6 +36,8 @@ impl Plain {
     pub(super) fn set(&mut self, o: Obj, n: Name, v: &Value) -> Result<Reply, AllocError>
         ensures ok { IfOk result (IsOutcome (attributes.set_effect self.old.world o n v.now) self.old self.new) }
         ensures err { OnErr result (self.new ≡ self.old) }
+        ensures there { IsTrue (is_in_dict self.old.world n (slice_get self.old.world.objects o)) → IsOk result }
+        ensures refused { wants_memory (attributes.set_effect self.old.world o n v.now).reply ≡ false → IsOk result }
     {
         let Some(object) = self.object_at(o) else {
             return Ok(Reply::NoAttr);
@@ -87,7 +91,8 @@ impl Plain {
     }
 
     pub(super) fn set_class(&mut self, o: Obj, c: Class) -> Reply
-        ensures { IsOutcome (steps.set_class_on self.old.world o c (slice_get self.old.world.objects o)) self.old self.new result }
+        ensures { let was = slice_get self.old.world.objects o in
+            IsOutcome (steps.set_class_on self.old.world o c was) self.old self.new result }
     {
         let Some(was) = self.object_at(o) else {
             return Reply::NoAttr;
@@ -119,6 +124,7 @@ impl Plain {
 fn put_in_dict(dicts: &mut [Pairs], d: Obj, n: Name, v: Value) -> Result<(), AllocError>
     ensures ok { OnOk result (dicts.new ≡ slice_set dicts.old d (with_value n v (slice_index_or dicts.old d []))) }
     ensures err { OnErr result (dicts.new ≡ dicts.old) }
+    ensures there { IsSome (value_at n (slice_index_or dicts.old d [])) → IsOk result }
 {
     let i = usize::from(d.number());
     if i < dicts.len() {

@@ -1,5 +1,6 @@
 //! Stored orders, a list for each class number, and orders that are computed from them.
-ghost use Rattle.std.specs.Prelude.{◌≡◌, ◌≤◌, ◌<◌, [], ℕ, Some, None, IfOk, IsErrOf, length, map, slice_index_or, slice_set};
+ghost use Rattle.std.specs.Prelude.{◌≡◌, ◌≤◌, ◌<◌, [], ℕ, Some, None, IfOk, IsErrOf};
+ghost use Rattle.std.specs.Prelude.{length, map, slice_index_or, slice_set};
 ghost use Rattle.std.specs.List.{list_any};
 ghost use Rattle.at_value.specs.Widths as widths;
 ghost use Rattle.at_c3.specs.Merge.{order_of_lists};

@@ -1,6 +1,7 @@
 //! Operations that read.
-ghost use Rattle.std.specs.Prelude.{◌≡◌, IfOk};
+ghost use Rattle.std.specs.Prelude.{◌≡◌, false, IfOk, IsOk};
 ghost use Rattle.at_model.specs.Attributes as attributes;
+ghost use Rattle.at_world.specs.Plain.{wants_memory};
 
 use super::Plain;
 use super::lookup::find_along_order;
@@ -66,7 +67,8 @@ impl Plain {
     }
 
     pub(super) fn mro(&self, c: Class) -> Result<Reply, AllocError>
-        ensures { IfOk result (λ reply. reply ≡ attributes.mro_reply self.now.world c) }
+        ensures ok { IfOk result (λ reply. reply ≡ attributes.mro_reply self.now.world c) }
+        ensures refused { wants_memory (attributes.mro_reply self.now.world c) ≡ false → IsOk result }
     {
         match self.order_list(c)? {
             Some(order) => Ok(Reply::Order(order)),

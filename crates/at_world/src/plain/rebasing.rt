@@ -1,12 +1,13 @@
 //! The assignment of bases to a class that is made.
-ghost use Rattle.std.specs.Prelude.{◌≡◌, ◌&&◌, ◌<◌, ◌^◌, ◌∷◌, [], ℕ, List, false, Some, IsTrue, IfOk, OnOk, OnErr, length, is_some, suc, slice_index_or};
+ghost use Rattle.std.specs.Prelude.{◌≡◌, ◌&&◌, ◌<◌, ◌^◌, ◌∷◌, [], ℕ, List, false, Some, IsTrue, IsOk, IfOk};
+ghost use Rattle.std.specs.Prelude.{OnOk, OnErr, length, is_some, suc, slice_index_or};
 ghost use Rattle.std.specs.List.{list_any, list_all};
 ghost use Rattle.std.specs.Option.{option_copied};
 ghost use Rattle.at_value.specs.Widths as widths;
 ghost use Rattle.at_model.specs.World as world;
 ghost use Rattle.at_model.specs.Step as steps;
 ghost use Rattle.at_model.specs.StoredOrders.{AreOrders};
-ghost use Rattle.at_world.specs.Plain.{IsOutcome, lists_of};
+ghost use Rattle.at_world.specs.Plain.{IsOutcome, lists_of, wants_memory};
 ghost use Rattle.at_model.specs.Step.{is_empty, rebased};
 ghost use Rattle.at_world.specs.Rebasing.{AreNewOrders, AreRenewed, is_due, due_row, first_empty};
 
@@ -25,6 +26,7 @@ impl Plain {
         requires { IsTrue (steps.are_made self.old.world (c ∷ bases.now)) }
         ensures ok { IfOk result (IsOutcome (steps.set_bases_effect self.old.world c bases.now) self.old self.new) }
         ensures err { OnErr result (self.new ≡ self.old) }
+        ensures refused { wants_memory (steps.set_bases_effect self.old.world c bases.now).reply ≡ false → IsOk result }
     {
         if c == Class::object() {
             return Ok(Reply::Immutable);

@@ -226,7 +226,10 @@ fn one_dictionary_serves_two_objects(rt: HostRuntime) -> Result<(), Fail> {
     let text = format!(in rt.alloc(); "{:?}", last.objects)?;
     assert_eq!(rt;
         text.as_str(),
-        "Sequence { items: [ObjEnd { class: Class(1), own: Pairs { items: [(Name(5), Int(1))] } }, ObjEnd { class: Class(2), own: Pairs { items: [(Name(5), Int(1))] } }] }"
+        concat!(
+            "Sequence { items: [ObjEnd { class: Class(1), own: Pairs { items: [(Name(5), Int(1))] } }, ",
+            "ObjEnd { class: Class(2), own: Pairs { items: [(Name(5), Int(1))] } }] }"
+        )
     );
     Ok(())
 }

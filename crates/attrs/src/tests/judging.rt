@@ -1,6 +1,6 @@
 //! Whether lines are a run of a script, and whether they are legal, as the code decides whose contracts are the
-//! definitions: the thread that runs a script, and the data model. It is as it was first written, and goes once a proved
-//! checker exists.
+//! definitions: the thread that runs a script, and the data model. It is as it was first written, and goes once a
+//! proved checker exists.
 use at_line::{Line, LineOp, LineReply, Local, What};
 use at_script::{Block, Script, Stmt};
 use at_thread::{Next, ReplyUse, Thread};

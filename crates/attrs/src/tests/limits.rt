@@ -17,6 +17,12 @@ const READS: u32 = BUDGET - 2;
 /// How many objects there are at most.
 const MOST_OBJECTS: u32 = 4_096;
 
+/// The line that makes the one class of these scripts.
+const CLASS_MADE: &str = "m 1 1 locked class C object = done\n";
+
+/// What stands of the classes at the end.
+const LAST_CLASSES: &str = "final\nclass object = object\nclass C = C object\n";
+
 /// The transcript that has this after its script.
 fn transcript(alloc: Global, script: &str, told: &str) -> Result<String, AllocError> {
     let length = script.len();
@@ -108,7 +114,7 @@ fn told_of_reads(alloc: Global, reads: u32, is_over: bool) -> Result<String, All
     };
     let lines = lines_of_reads(alloc, reads.min(READS))?;
     format!(in alloc;
-        "lines {count}\nm 1 1 locked class C object = done\nm 2 2 locked new C = made #0\n{lines}{last}final\nclass object = object\nclass C = C object\nobject #0 C\nend\n"
+        "lines {count}\n{CLASS_MADE}m 2 2 locked new C = made #0\n{lines}{last}{LAST_CLASSES}object #0 C\nend\n"
     )
 }
 
@@ -157,7 +163,7 @@ fn told_of_objects(alloc: Global) -> Result<String, AllocError> {
     let lines = lines_of_objects(alloc)?;
     let ends = ends_of_objects(alloc)?;
     format!(in alloc;
-        "lines 4098\nm 1 1 locked class C object = done\n{lines}m 4098 4097 locked new C = full\nfinal\nclass object = object\nclass C = C object\n{ends}end\n"
+        "lines 4098\n{CLASS_MADE}{lines}m 4098 4097 locked new C = full\n{LAST_CLASSES}{ends}end\n"
     )
 }
 

@@ -4,7 +4,7 @@ use Rattle.at_value.specs.declared.reply.Reply.TheVariants as replies
 use Rattle.at_line.specs.declared.line.What as what
 use Rattle.at_line.specs.Kept.{whats_of_thread}
 use Rattle.at_line.specs.Lines.{finally_thread}
-use Rattle.at_line.specs.LineExamples.{does, sets_six, gets_five, seven}
+use Rattle.at_line.specs.LineExamples.{does, sets_six, gets_five, gives_seven}
 use Rattle.at_thread.specs.Execution.{ThreadState, start}
 use Rattle.at_thread.specs.Executions.{Leads}
 use Rattle.at_run.specs.RunExamples.{example_script, first_block, second_block, last_block, says_unbound, variable_forgotten, variable_forgotten_at_last, variable_shared}
@@ -21,7 +21,7 @@ never_last zero more end leads = let none = leads.0 in cc
 never_last (suc steps) more end leads = false≢true leads.0
 
 -- the second thread has no value for the variable of the first
-never_shared : (steps : ℕ) (end : ThreadState) → Leads example_script steps (start second_block bound) (does 4 sets_six replies.Done ∷ does 4 gets_five seven ∷ []) end → ⊥
+never_shared : (steps : ℕ) (end : ThreadState) → Leads example_script steps (start second_block bound) (does 4 sets_six replies.Done ∷ does 4 gets_five gives_seven ∷ []) end → ⊥
 never_shared zero end leads = let none = leads.0 in cc
 never_shared (suc zero) end leads = let none = leads.2.0 in cc
 never_shared (suc (suc steps)) end leads = let other = leads.2.0 in cc

@@ -1,7 +1,7 @@
 use Rattle.std.proofs.Common.{◌≡◌, ap, sym, subst, arith, length, set, None, Some, Err}
 use Rattle.at_value.specs.declared.reply.Reply.TheVariants as replies
 use Rattle.at_value.specs.Widths as widths
-use Rattle.at_model.specs.World.{row_of, order_of}
+use Rattle.at_model.specs.World.{row_of, new_row, order_of}
 use Rattle.at_model.specs.Step.{with_class, if_ordered}
 use Rattle.at_model.specs.StoredOrders.{AreOrders}
 use Rattle.at_world.specs.Plain.{PlainState, lists_of}
@@ -22,7 +22,7 @@ returns-in-Ok-clause-ok c =
     let IsOrder : PlainState → Type 0 = λ s. order_of (with_class s.world c.args.c c.args.bases.now) c.args.c ≡ Some c.in-Ok.order.items in
     let now : PlainState = record {
       world = record {
-        classes = set c.self.inside.classes.items c.from-i.result (Some (record { bases = c.args.bases.now; own = c.new.result }));
+        classes = set c.self.inside.classes.items c.from-i.result (Some (record (new_row c.args.bases.now) { own = c.new.result }));
         objects = c.self.inside.objects.items;
         dicts = c.self.inside.dicts.items;
       };
