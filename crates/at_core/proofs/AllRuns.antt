@@ -79,13 +79,13 @@ module _ (opened : World) (limits : Limits) where
     table_holds = split_moves opened limits a.table a.ghost h.table_holds id t.view t.makes.there t.makes.live [] t.number t.asked;
     hands_are = λ j u k e is. ⊎_elim
         (λ (x : (j ≢ length (set a.table.views id (parted t.view))) × (get_elem? (set a.table.views id (parted t.view)) j ≡ some u)).
-            let ne : j ≢ length a.table.views = λ z. x.0 (z ∙ sym (same_length a.table.views id (parted t.view))) in
-            ap is_some (without_else a (length a.table.views) j (slot_of k) ne)
-            ∙ each_set (λ i y. is_some (a.hands i (slot_of k)) ≡ holds k y) a.table.views id (parted t.view) (λ i y e'. h.hands_are i y k e' is)
-                (h.hands_are id t.view k t.makes.there is ∙ sym (hold_parted k t.view)) j u x.1)
+        let ne : j ≢ length a.table.views = λ z. x.0 (z ∙ sym (same_length a.table.views id (parted t.view))) in
+        ap is_some (without_else a (length a.table.views) j (slot_of k) ne)
+        ∙ each_set (λ i y. is_some (a.hands i (slot_of k)) ≡ holds k y) a.table.views id (parted t.view) (λ i y e'. h.hands_are i y k e' is)
+        (h.hands_are id t.view k t.makes.there is ∙ sym (hold_parted k t.view)) j u x.1)
         (λ (x : (j ≡ length (set a.table.views id (parted t.view))) × (child t.view ≡ u)).
-            let e' : j ≡ length a.table.views = x.0 ∙ same_length a.table.views id (parted t.view) in
-            ap (λ (n : ℕ). is_some (without_hand a (length a.table.views) n (slot_of k))) e' ∙ (ap is_some (without_here a (length a.table.views) (slot_of k)) ∙ (sym (hold_child k t.view) ∙ ap (holds k) x.1)))
+        let e' : j ≡ length a.table.views = x.0 ∙ same_length a.table.views id (parted t.view) in
+        ap (λ (n : ℕ). is_some (without_hand a (length a.table.views) n (slot_of k))) e' ∙ (ap is_some (without_here a (length a.table.views) (slot_of k)) ∙ (sym (hold_child k t.view) ∙ ap (holds k) x.1)))
         (at_end (set a.table.views id (parted t.view)) (child t.view) j u e);
   })
 
@@ -94,7 +94,7 @@ module _ (opened : World) (limits : Limits) where
     table_holds = join_moves opened limits a.table a.ghost h.table_holds id t.view t.makes.there t.makes.live [] other t.joined t.apart t.ends.there t.ends.live t.asked;
     hands_are = λ j u k e is. each_set (λ i y. is_some (a.hands i (slot_of k)) ≡ holds k y) (set a.table.views id (merged t.view t.joined)) other blank
         (each_set (λ i y. is_some (a.hands i (slot_of k)) ≡ holds k y) a.table.views id (merged t.view t.joined) (λ i y e'. h.hands_are i y k e' is)
-            (h.hands_are id t.view k t.makes.there is ∙ sym (hold_merged k t.view t.joined)))
+        (h.hands_are id t.view k t.makes.there is ∙ sym (hold_merged k t.view t.joined)))
         (h.hands_are other t.joined k t.ends.there is ∙ (t.asked.lockless k ∙ sym (hold_blank k))) j u e;
   })
 

@@ -21,7 +21,7 @@ use Rattle.at_types.specs.Calls.{Call, CanMake, IsCall, IsRun, operations_of, op
 use Rattle.at_types.specs.Laws.{ObjectIsCounted}
 use Rattle.at_types.specs.declared.tags.LimboRow.{LimboRow}
 use Rattle.at_types.specs.Tags.{TagState, IsPool, tags_to, counted, next_given, new_row, in_limbo, row_at, with_goal, with_kept, with_freed}
-use Rattle.at_types.specs.Types.{TypesState, StandsFor, opened, pass_numbers, with_number, with_tags}
+use Rattle.at_types.specs.Types.{TypesState, StandsFor, opened, with_number, with_tags}
 use Rattle.at_types.proofs.StandingLaws.{opened_stands, look_ups_stand, object_is_counted}
 use Rattle.at_types.proofs.TagLemmas.{pool-next, pool-in_limbo, pool-with_row, pool-freed, length-tags_to}
 
@@ -112,14 +112,14 @@ run_stands (call ∷ list) old new w stands is =
 -- What stays true of passes and tags
 
 record Holds (t : TypesState) : Type 0 where
-  passes : length t.numbers ≡ pass_numbers
+  passes : length t.numbers ≡ widths.passes
   pool : IsPool t.tags
 
 opened_holds : (tags : ℕ) → tags < 2 ^ 16 → Holds (opened tags)
 opened_holds tags small =
     let long : length (tags_to tags) ≡ tags = length-tags_to tags in
     record {
-      passes = length-replicate {A = Bool} pass_numbers true;
+      passes = length-replicate {A = Bool} widths.passes true;
       pool = record {
         small = small;
         single = λ tag. omega arith;

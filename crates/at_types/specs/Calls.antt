@@ -12,7 +12,7 @@ use Rattle.at_model.specs.History.{replay}
 use Rattle.at_types.specs.declared.tags.KeptBy as kept_by
 use Rattle.at_types.specs.Laws.{LookUpsStand}
 use Rattle.at_types.specs.Tags.{IsOut, next_given, in_limbo, with_goal, with_kept, with_freed}
-use Rattle.at_types.specs.Types.{TypesState, StandsFor, IsTypes, IsReplyTo, IsStepped, opened, pass_numbers, is_class_write, with_object, with_number, with_tags}
+use Rattle.at_types.specs.Types.{TypesState, StandsFor, IsTypes, IsReplyTo, IsStepped, opened, is_class_write, with_object, with_number, with_tags}
 
 -- What may be done: a call on the state, or an operation elsewhere.
 pub data Call : Type 0 where
@@ -60,7 +60,7 @@ pub record CanMake (t : TypesState) (c : ℕ) : Type 0 where
 
 abbrev pub IsTaken : Option ℕ → TypesState → TypesState → Type 0
 IsTaken None old new = new ≡ old
-IsTaken (Some q) old new = (q < pass_numbers) × (new ≡ with_number old q false)
+IsTaken (Some q) old new = (q < widths.passes) × (new ≡ with_number old q false)
 
 abbrev pub IsGiven : Option ℕ → TypesState → TypesState → Type 0
 IsGiven None old new = new ≡ old
@@ -73,7 +73,7 @@ IsCall (failed operation) old new = new ≡ old
 IsCall (added c o) old new = CanMake old c × (o ≡ old.objects) × (new ≡ with_object old)
 IsCall (elsewhere operation) old new = IsTrue (is_elsewhere operation) × (new ≡ old)
 IsCall (taken q) old new = IsTaken q old new
-IsCall (returned q) old new = (q < pass_numbers) × (new ≡ with_number old q true)
+IsCall (returned q) old new = (q < widths.passes) × (new ≡ with_number old q true)
 IsCall (given tag) old new = (tag ≡ slice_get old.tags.free 0) × IsGiven tag old new
 IsCall (dropped tag) old new = IsOut old.tags tag × (new ≡ with_tags old (in_limbo old.tags tag))
 IsCall (goal_set i goal) old new = (i < length old.tags.limbo) × (new ≡ with_tags old (with_goal old.tags i goal))

@@ -19,13 +19,9 @@ pub record TypesState : Type 0 where
   pub numbers : List Bool
   pub tags : TagState
 
--- how many passes there may be
-abbrev pub pass_numbers : ℕ
-pass_numbers = 64
-
 -- the class `object` alone, each number free, and a pool of this many tags
 abbrev pub opened : ℕ → TypesState
-opened tags = record { classes = opening.classes; objects = 0; numbers = replicate pass_numbers true; tags = full_pool tags }
+opened tags = record { classes = opening.classes; objects = 0; numbers = replicate widths.passes true; tags = full_pool tags }
 
 -- What is true of every `Types`.
 pub record IsTypes (t : TypesState) : Type 0 where
@@ -33,7 +29,7 @@ pub record IsTypes (t : TypesState) : Type 0 where
   pub numbered : length t.classes ≡ widths.classes
   pub ordered : (c : ℕ) → IsTrue (is_some (row_of t.classes c)) → (order : List ℕ) × (order_in t.classes c ≡ Some order)
   pub few : t.objects ≤ widths.objects
-  pub passes : length t.numbers ≡ pass_numbers
+  pub passes : length t.numbers ≡ widths.passes
   pub pool : IsPool t.tags
 
 -- What calls change

@@ -12,16 +12,13 @@ ghost use Rattle.at_types.specs.Subclasses.{IsSubclassWalk, AreClosedBelow, IsBe
 ghost use Rattle.at_types.specs.Tags as tags;
 ghost use Rattle.at_types.specs.ClassSteps.{plan_reply};
 ghost use Rattle.at_types.specs.Memory.{is_early, changes_no_order};
-ghost use Rattle.at_types.specs.Types.{IsStepped, IsReplyTo, IsTypes, opened, pass_numbers, is_class_write, has_objects, has_classes, with_object, with_number, with_tags};
+ghost use Rattle.at_types.specs.Types.{IsStepped, IsReplyTo, IsTypes, opened, is_class_write, has_objects, has_classes, with_object, with_number, with_tags};
 
 use crate::classes::Classes;
 use crate::tags::{KeptBy, LimboRow, TagCounts, TagPool};
-use at_value::{Bases, Class, ClassList, Name, Obj, Op, Reply, Value};
+use at_value::{Bases, Class, ClassList, Name, Obj, Op, PASSES, Reply, Value};
 use std::alloc::{AllocError, Global};
 use std::marker::Model;
-
-/// How many passes there may be at once.
-const PASSES: usize = 64;
 
 /// The classes with their stored orders and the tree of subclasses, the count of the objects, the numbers that no pass
 /// has, and the pool of tags. The classes and objects stand for each world that has these classes and as many objects:
@@ -246,7 +243,7 @@ impl Types {
     pub fn take_number(&mut self) -> Option<u8>
         ensures least { result ≡ position (λ free. free) self.old.numbers }
         ensures taken { IfSome result (λ q.
-            (q < pass_numbers) × (self.new ≡ with_number self.old q false)) }
+            (q < widths.passes) × (self.new ≡ with_number self.old q false)) }
         ensures out { IfSome result (λ q. slice_index_or self.new.numbers q true ≡ false) }
         ensures none { IfNone result (self.new ≡ self.old) }
     {
@@ -257,8 +254,7 @@ impl Types {
 
     /// Gives back the number of a pass.
     pub fn free_number(&mut self, q: u8)
-        requires below { q < pass_numbers }
-        requires taken { slice_index_or self.old.numbers q true ≡ false }
+        requires below { q < widths.passes }
         ensures { self.new ≡ with_number self.old q true }
     {
         self.numbers[usize::from(q)] = true;

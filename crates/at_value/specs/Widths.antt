@@ -14,6 +14,10 @@ classes = 255
 abbrev pub functions : ℕ
 functions = 1024
 
+-- passes at once
+abbrev pub passes : ℕ
+passes = 64
+
 -- bases of one class
 abbrev pub most_bases : ℕ
 most_bases = 8

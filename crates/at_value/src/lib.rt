@@ -17,7 +17,7 @@ mod tests;
 mod value;
 mod word;
 
-pub use limits::Limits;
+pub use limits::{Limits, PASSES};
 pub use list::{Bases, BasesFull, ClassList};
 pub use number::{Class, Func, Name, Obj};
 pub use operation::Op;

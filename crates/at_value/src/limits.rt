@@ -2,6 +2,9 @@
 ghost use Rattle.std.specs.Prelude.{◌≡◌};
 ghost use Rattle.at_value.specs.ProgramLimits.{program_limits};
 
+/// How many passes there may be at once.
+pub const PASSES: usize = 64;
+
 /// How far the counted words of a run may go.
 #[derive(Clone, Copy, Debug, PartialEq, Eq)]
 pub struct Limits {

@@ -1,10 +1,7 @@
 -- How many of each kind the shared table has. A larger table is a change of these numbers and of those of names, classes
 -- and objects. They are this project's own.
 use Rattle.std.specs.Prelude.{ℕ}
-
--- passes at once
-abbrev pub passes : ℕ
-passes = 64
+pub use Rattle.at_value.specs.Widths.{passes}
 
 -- keys of a class, and inline values of an object
 abbrev pub keys : ℕ

@@ -1,6 +1,5 @@
 //! The words by number, as they are laid out.
-use crate::laws;
-use crate::words;
+use crate::{laws, words};
 use at_value::{Class, Obj};
 
 #[test]

@@ -4,10 +4,7 @@ ghost use Rattle.at_value.specs.Widths as widths;
 ghost use Rattle.at_view.specs.Counts as counts;
 ghost use Rattle.at_view.specs.Words as names;
 
-use at_value::{Class, Obj};
-
-/// Passes at once.
-pub const PASSES: usize = 64;
+use at_value::{Class, Obj, PASSES};
 
 /// Keys of a class.
 pub const KEYS: usize = 8;
@@ -25,13 +22,19 @@ pub const INTENT_WORDS: usize = 4;
 pub const ENTRY_FIELDS: usize = 3;
 
 const ENTRY_WORDS: usize = ENTRY_FIELDS + 1;
+
 const OBJECT_WORDS: usize = INLINE_VALUES + 2;
 
 const FIRST_OWN: usize = 3;
+
 const FIRST_INTENT: usize = FIRST_OWN + PASSES;
+
 const FIRST_TAG: usize = FIRST_INTENT + INTENT_WORDS * PASSES;
+
 const FIRST_KEY: usize = FIRST_TAG + Class::COUNT as usize;
+
 const FIRST_ENTRY: usize = FIRST_KEY + KEYS * Class::COUNT as usize;
+
 const FIRST_OBJECT: usize = FIRST_ENTRY + ENTRY_WORDS * ENTRIES;
 
 /// How many words the table has.
