@@ -7,7 +7,7 @@ use Rattle.at_c3.specs.Merge.{merge_of, order_of_lists}
 use Rattle.at_c3.proofs.NumberLemmas.{has}
 use Rattle.at_c3.proofs.RunLemmas.{prefixed-some}
 use Rattle.at_model.specs.declared.rows.ClassRow.{ClassRow}
-use Rattle.at_model.specs.World.{row_of, own_of, order_before, all_orders, merged_order, order_within, order_in}
+use Rattle.at_model.specs.World.{row_of, row_or_empty, order_before, all_orders, merged_order, order_within, order_in}
 use Rattle.at_model.specs.Step.{is_in_order, is_empty, rebased}
 use Rattle.at_model.specs.StoredOrders.{AreOrders}
 use Rattle.at_world.specs.Plain.{order_or_none, order_by}
