@@ -5,3 +5,5 @@ pub mod Rule
 pub mod Steps
 pub mod Plays
 pub mod Runs
+pub mod Opened
+pub mod Passes

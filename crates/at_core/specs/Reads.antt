@@ -93,3 +93,7 @@ pub record LimitRead : Type 0 where
 
 abbrev pub limit_read : View → LimitRead
 limit_read v = record { live = v.who.live; limits = v.who.limits }
+
+-- the number of a slot in hand
+abbrev pub slot_number : {A : Type 0} → ℕ × A → ℕ
+slot_number slot = slot.0

@@ -7,6 +7,8 @@ pub mod lock;
 pub mod stored;
 #[cfg(test)]
 mod tests;
+pub mod world;
 
 pub use lock::Lock;
 pub use stored::Stored;
+pub use world::{Pass, World};

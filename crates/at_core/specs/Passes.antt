@@ -1,0 +1,33 @@
+-- What contracts say of a pass and of its world.
+use Rattle.std.specs.Prelude.{◌≡◌, ℕ, List, [], ◌∷◌, map, Option, Some, None}
+use Rattle.atomic_table.specs.Table.{Me, rest}
+use Rattle.at_view.specs.declared.view.View.{View}
+use Rattle.at_core.specs.declared.lock.Lock as lock
+use Rattle.at_core.specs.declared.stored.Stored.{Stored}
+use Rattle.at_core.specs.declared.world.Pass.{Pass}
+use Rattle.at_core.specs.declared.world.World.{World}
+use Rattle.at_core.specs.Locks.{slot_of}
+use Rattle.at_core.specs.Rule.{Slot}
+
+-- what the pass knows
+abbrev pub view : Pass → View
+view p = p.seat.me.0
+
+-- the slots that it has out, the one that it had at hand last first
+abbrev pub hand : Pass → List (ℕ × Slot)
+hand p = p.seat.me.1
+
+-- the pass is one of this world's
+pub record IsOf (p : Pass) (w : World) : Type 0 where
+  pub table : p.seat.table_id ≡ w.table.shared.table_id
+  pub limits : (view p).who.limits ≡ w.limits
+
+-- the same pass of the same world
+pub record IsSame (p q : Pass) : Type 0 where
+  pub table : q.seat.table_id ≡ p.seat.table_id
+  pub seat : q.seat.id ≡ p.seat.id
+  pub number : q.number ≡ p.number
+
+-- the slot of the lock is at the front of the hand, with this value, and before these
+abbrev pub HasSlot : Pass → lock.Lock → Slot → List (ℕ × Slot) → Type 0
+HasSlot p l x others = hand p ≡ (slot_of l, x) ∷ others
