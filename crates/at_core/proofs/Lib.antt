@@ -12,3 +12,5 @@ pub mod Opening
 pub mod Hands
 pub mod Moves
 pub mod AllRuns
+pub mod Family
+pub mod Allowed

@@ -4,6 +4,7 @@
 
 pub mod laws;
 pub mod lock;
+mod locking;
 pub mod stored;
 #[cfg(test)]
 mod tests;
