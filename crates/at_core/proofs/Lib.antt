@@ -12,3 +12,4 @@ pub mod Opening
 pub mod Hands
 pub mod Moves
 pub mod AllRuns
+pub mod SomeRun
