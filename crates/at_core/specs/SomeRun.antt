@@ -7,14 +7,15 @@ use Rattle.at_core.specs.declared.stored.Stored.{Stored}
 use Rattle.at_core.specs.Runs.{Core, Event, lock_take, lock_miss, lock_give, slot_out, slot_in, split, join, IsOpening, Leads}
 
 -- The first pass takes the lock of the types and the types out of their slot, splits a second off, and puts the types
--- in, with the number of the second taken. The second finds the lock held, and the first gives it back. The second takes
--- a row and gives it back. The first takes the lock and the types as before, takes the second in, and puts the types in,
--- with its number free again.
+-- in, with the number of the second taken. The second finds the lock held, and the first gives it back. The second
+-- takes a row and gives it back. The first takes the lock and the types as before, takes the second in, and puts the
+-- types in, with its number free again.
 abbrev pub some_events : Stored → Stored → List Event
 some_events parted joined =
     lock_take 0 locks.Types ∷ slot_out 0 locks.Types ∷ split 0 ∷ slot_in 0 locks.Types parted
     ∷ lock_miss 1 locks.Types ∷ lock_give 0 locks.Types ∷ lock_take 1 (locks.Row 0) ∷ lock_give 1 (locks.Row 0)
-    ∷ lock_take 0 locks.Types ∷ slot_out 0 locks.Types ∷ join 0 1 ∷ slot_in 0 locks.Types joined ∷ lock_give 0 locks.Types ∷ []
+    ∷ lock_take 0 locks.Types ∷ slot_out 0 locks.Types ∷ join 0 1
+    ∷ slot_in 0 locks.Types joined ∷ lock_give 0 locks.Types ∷ []
 
 -- the kinds of steps by number
 abbrev pub kind_of : Event → ℕ
