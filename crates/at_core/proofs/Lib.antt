@@ -14,3 +14,4 @@ pub mod Moves
 pub mod AllRuns
 pub mod Family
 pub mod Allowed
+pub mod SomeRun

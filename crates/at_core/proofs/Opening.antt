@@ -25,7 +25,7 @@ use Rattle.at_core.proofs.Lists.{each_one}
 use Rattle.at_core.proofs.Counts.{at_most_one, weight_other}
 
 -- what the list has at an index below its length
-has_index : {A : Type 0} (xs : List A) (i : ℕ) → i < length xs → (x : A) × (get_elem? xs i ≡ some x)
+pub has_index : {A : Type 0} (xs : List A) (i : ℕ) → i < length xs → (x : A) × (get_elem? xs i ≡ some x)
 has_index [] i lt = absurd (omega arith)
 has_index (x ∷ xs) zero lt = (x, refl)
 has_index (x ∷ xs) (suc i) lt = has_index xs i (omega arith)
@@ -50,17 +50,17 @@ late_word a le = by_test (is_there a) refl
     by_test true e = ap (λ (t : Bool). if t then get_or opening_words (number_of a) 0 else 0) e ∙ late_zero (number_of a) le
     by_test false e = ap (λ (t : Bool). if t then get_or opening_words (number_of a) 0 else 0) e
 
-free_at_first : (l : lock.Lock) → words_of opening_words (lock_word l) ≡ 0
+pub free_at_first : (l : lock.Lock) → words_of opening_words (lock_word l) ≡ 0
 free_at_first locks.Types = refl
 free_at_first (locks.Row o) = late_word (row_lock o) (omega arith)
 
-head_at_first : (o : ℕ) → heads_of (words_of opening_words) o ≡ 0
+pub head_at_first : (o : ℕ) → heads_of (words_of opening_words) o ≡ 0
 head_at_first o = late_word (head o) (omega arith)
 
-no_dictionary : (w : ℕ) → w ≡ 0 → ¬ HasDictionary (shape_of w)
+pub no_dictionary : (w : ℕ) → w ≡ 0 → ¬ HasDictionary (shape_of w)
 no_dictionary w e = λ h. let z : (shape_of 0).layout ≡ 2 = ap (λ (n : ℕ). (shape_of n).layout) (sym e) ∙ h in absurd (omega arith)
 
-long_enough : length opening_words ≡ table_words
+pub long_enough : length opening_words ≡ table_words
 long_enough = let n = length-replicate {A = ℕ} (table_words - 4) 0 in omega arith
 
 -- Numbers

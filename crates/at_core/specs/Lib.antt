@@ -7,3 +7,4 @@ pub mod Plays
 pub mod Runs
 pub mod Opened
 pub mod Passes
+pub mod SomeRun

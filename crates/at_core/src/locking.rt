@@ -37,18 +37,18 @@ impl Play<Option<Stored>, View> for GivePlay {
 
 impl Lock {
     /// The number of the lock's word.
-    pub(crate) fn word(self) -> usize
-        ensures { result ≡ number_of (lock_word self) }
+    pub(crate) fn word(&self) -> usize
+        ensures { result ≡ number_of (lock_word self.now) }
     {
         match self {
             Lock::Types => words::TYPE_LOCK,
-            Lock::Row(o) => words::row_lock(o),
+            Lock::Row(o) => words::row_lock(*o),
         }
     }
 
     /// The number of the slot that leaves the table with the lock.
-    pub(crate) fn slot(self) -> u16
-        ensures { result ≡ slot_of self }
+    pub(crate) fn slot(&self) -> u16
+        ensures { result ≡ slot_of self.now }
     {
         match self {
             Lock::Types => 0,

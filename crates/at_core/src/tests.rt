@@ -4,4 +4,5 @@ use crate::laws;
 #[test]
 fn laws_hold() {
     laws::every_run();
+    laws::some_run();
 }
