@@ -1,12 +1,12 @@
 -- What contracts say of a pass and of its world.
-use Rattle.std.specs.Prelude.{◌≡◌, ℕ, List, [], ◌∷◌, map, Option, Some, None}
-use Rattle.atomic_table.specs.Table.{Me, rest}
+use Rattle.std.specs.Prelude.{◌≡◌, ◌≢◌, ℕ, List, Option}
 use Rattle.at_view.specs.declared.view.View.{View}
 use Rattle.at_core.specs.declared.lock.Lock as lock
 use Rattle.at_core.specs.declared.stored.Stored.{Stored}
 use Rattle.at_core.specs.declared.world.Pass.{Pass}
 use Rattle.at_core.specs.declared.world.World.{World}
 use Rattle.at_core.specs.Locks.{slot_of}
+use Rattle.at_core.specs.Reads.{in_hand}
 use Rattle.at_core.specs.Rule.{Slot}
 
 -- what the pass knows
@@ -28,6 +28,10 @@ pub record IsSame (p q : Pass) : Type 0 where
   pub seat : q.seat.id ≡ p.seat.id
   pub number : q.number ≡ p.number
 
--- the slot of the lock is at the front of the hand, with this value, and before these
-abbrev pub HasSlot : Pass → lock.Lock → Slot → List (ℕ × Slot) → Type 0
-HasSlot p l x others = hand p ≡ (slot_of l, x) ∷ others
+-- what the slot of a lock has, where it is out to the pass
+abbrev pub slot_at : Pass → lock.Lock → Option Slot
+slot_at p l = in_hand (slot_of l) (hand p)
+
+-- the slots of all other locks are as they were
+abbrev pub IsElsewhereSame : Pass → Pass → lock.Lock → Type 0
+IsElsewhereSame p q l = (k : lock.Lock) → k ≢ l → slot_at q k ≡ slot_at p k

@@ -6,8 +6,9 @@ ghost use Rattle.at_core.specs.declared.stored.Stored as stored;
 ghost use Rattle.at_view.specs.Words.{number_of};
 ghost use Rattle.at_core.specs.Locks.{holds, lock_word, slot_of};
 ghost use Rattle.at_core.specs.Opened.{opening_of};
-ghost use Rattle.at_core.specs.Passes.{view, hand, IsOf, IsSame};
+ghost use Rattle.at_core.specs.Passes.{view, hand, slot_at, IsOf, IsSame, IsElsewhereSame};
 ghost use Rattle.at_core.specs.Plays.{Brought, Found, Took};
+ghost use Rattle.at_core.specs.Rule.{IsLock};
 ghost use Rattle.at_core.specs.Steps.{Moment, given, missed, taken, MayGive};
 
 use crate::lock::Lock;
@@ -48,7 +49,8 @@ impl Lock {
 
     /// The number of the slot that leaves the table with the lock.
     pub(crate) fn slot(&self) -> u16
-        ensures { result ≡ slot_of self.now }
+        ensures slot { result ≡ slot_of self.now }
+        ensures lock { IsLock self.now }
     {
         match self {
             Lock::Types => 0,
@@ -66,13 +68,15 @@ pub(crate) fn try_lock(world: &World, pass: &mut Pass, lock: Lock) -> u64
     requires room { length (hand pass.old) < MOST_HELD }
     ensures same { IsSame pass.old pass.new × IsOf pass.new world.now }
     ensures got { result ≡ 0 → (at : Moment) × (x : stored.Stored) × (view pass.new ≡ taken lock (view pass.old) at)
-        × (hand pass.new ≡ (slot_of lock, Some x) ∷ hand pass.old) × Took (opening_of world.now.limits) lock (view pass.old) at x }
-    ensures held { result ≢ 0 → (view pass.new ≡ missed lock (view pass.old) result) × (hand pass.new ≡ hand pass.old) × Found (view pass.old) result }
+        × (slot_at pass.new lock ≡ Some (Some x)) × Took (opening_of world.now.limits) lock (view pass.old) at x }
+    ensures held { result ≢ 0 → (view pass.new ≡ missed lock (view pass.old) result) × Found (view pass.old) result }
+    ensures elsewhere { IsElsewhereSame pass.old pass.new lock }
 {
+    let slot = lock.slot();
     let mine = u64::from(pass.number) + 1;
     let found = world.table.shared.compare_exchange::<TakePlay>(&mut pass.seat, lock.word(), 0, mine);
     if found == 0 {
-        pass.hand.insert(0, lock.slot());
+        pass.hand.insert(0, slot);
     }
     found
 }

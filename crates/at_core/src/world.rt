@@ -1,9 +1,13 @@
 //! The shared table, and the passes that step on it.
-ghost use Rattle.std.specs.Prelude.{◌≡◌, ◌<◌, true, suc, map};
+ghost use Rattle.std.specs.Prelude.{ℕ, ◌≡◌, ◌<◌, ◌≤◌, true, suc, map, is_some};
 ghost use Rattle.at_value.specs.Widths.{objects};
 ghost use Rattle.at_view.specs.Counts.{passes};
 ghost use Rattle.at_view.specs.Words.{table_words};
-ghost use Rattle.at_core.specs.Reads.{slot_number};
+ghost use Rattle.at_core.specs.declared.lock.Lock as lock;
+ghost use Rattle.at_core.specs.Locks.{holds, slot_of};
+ghost use Rattle.at_core.specs.Reads.{in_hand, slot_number};
+ghost use Rattle.at_core.specs.Rule.{IsLock};
+ghost use Rattle.at_types.specs.Tags.{times};
 
 use crate::stored::Stored;
 use arrayvec::ArrayVec;
@@ -50,4 +54,6 @@ pub struct Pass {
     ghost live: { seat.me.0.who.live ≡ true },
     ghost numbered: { (seat.me.0.who.number ≡ number) × (number < passes) },
     ghost listed: { hand.items ≡ map slot_number seat.me.1 },
+    ghost once: { (k : ℕ) → times k (map slot_number seat.me.1) ≤ 1 },
+    ghost right: { (l : lock.Lock) → IsLock l → is_some (in_hand (slot_of l) seat.me.1) ≡ holds l seat.me.0 },
 }
