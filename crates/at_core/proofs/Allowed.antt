@@ -29,7 +29,7 @@ use Rattle.at_core.proofs.Prefixes.{prefix_shorter}
 use Rattle.at_core.proofs.WordLemmas.{said}
 use Rattle.at_core.proofs.LockLemmas.{hold_taken, copy_taken}
 use Rattle.at_core.proofs.Parts.{seen_begins}
-use Rattle.at_core.proofs.Family.{alone_saw, found, younger, own_once}
+use Rattle.at_core.proofs.LivePasses.{alone_saw, found, younger, own_once}
 use Rattle.at_core.proofs.Moves.{take_moves, miss_moves, give_moves, split_moves, join_moves}
 
 word_one : (l k : lock.Lock) → lock_word l ≡ lock_word k → l ≡ k

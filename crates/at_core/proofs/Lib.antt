@@ -12,6 +12,7 @@ pub mod Opening
 pub mod Hands
 pub mod Moves
 pub mod AllRuns
-pub mod Family
+pub mod LivePasses
 pub mod Allowed
 pub mod SomeRun
+pub mod HandOf

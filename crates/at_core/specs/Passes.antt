@@ -32,6 +32,10 @@ pub record IsSame (p q : Pass) : Type 0 where
 abbrev pub slot_at : Pass → lock.Lock → Option Slot
 slot_at p l = in_hand (slot_of l) (hand p)
 
+-- the slots of all locks are as they were
+abbrev pub HasSameHand : Pass → Pass → Type 0
+HasSameHand p q = (k : lock.Lock) → slot_at q k ≡ slot_at p k
+
 -- the slots of all other locks are as they were
 abbrev pub IsElsewhereSame : Pass → Pass → lock.Lock → Type 0
 IsElsewhereSame p q l = (k : lock.Lock) → k ≢ l → slot_at q k ≡ slot_at p k

@@ -2,6 +2,7 @@
 //! rule.
 #![tactic(auto)]
 
+pub mod family;
 pub mod laws;
 pub mod lock;
 mod locking;

@@ -55,5 +55,6 @@ pub struct Pass {
     ghost numbered: { (seat.me.0.who.number ≡ number) × (number < passes) },
     ghost listed: { hand.items ≡ map slot_number seat.me.1 },
     ghost once: { (k : ℕ) → times k (map slot_number seat.me.1) ≤ 1 },
+    ghost within: { (k : ℕ) → 0 < times k (map slot_number seat.me.1) → k < suc objects },
     ghost right: { (l : lock.Lock) → IsLock l → is_some (in_hand (slot_of l) seat.me.1) ≡ holds l seat.me.0 },
 }
