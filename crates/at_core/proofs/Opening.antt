@@ -98,6 +98,18 @@ no_place (suc p) = let no : nat_lt (suc p) 1 ≡ false = grind (arith, nat_tests
     and_false true = refl
     and_false false = refl
 
+-- the opening state
+pub first_core : (opened : World) (limits : Limits) (a : Core) (o : IsOpening opened limits a) → a ≡ record {
+    table = opening opening_words (Some o.slots_are.types ∷ o.slots_are.bodies) (first_view limits);
+    hands = λ id slot. None;
+    ghost = record { history = []; lists = opening_lists limits };
+  }
+first_core opened limits a o = o.after ∙ ap (λ (slots : List Slot). record {
+  table = opening opening_words slots (first_view limits);
+  hands = λ id slot. None;
+  ghost = record { history = []; lists = opening_lists limits };
+}) o.slots_are.are
+
 module _ (opened : World) (limits : Limits) (a : Core) (allowed : IsAllowed limits) (o : IsOpening opened limits a) where
   v : View
   v = first_view limits
@@ -114,24 +126,24 @@ module _ (opened : World) (limits : Limits) (a : Core) (allowed : IsAllowed limi
   }
 
   homes : Homes
-  homes = map some (Some o.types ∷ o.bodies)
+  homes = map some (Some o.slots_are.types ∷ o.slots_are.bodies)
 
-  slot_is : (l : lock.Lock) → IsLock l → SlotRule limits opened (opening_lists limits) (shape_under (heads_of (words_of opening_words)) l) l (words_of opening_words (lock_word l)) (get_elem? (map some (Some o.types ∷ o.bodies)) (slot_of l))
-  slot_is locks.Types is = record { at_home = λ _. (o.types, refl, o.agrees); out = λ busy. let z = free_at_first locks.Types in absurd (omega arith) }
+  slot_is : (l : lock.Lock) → IsLock l → SlotRule limits opened (opening_lists limits) (shape_under (heads_of (words_of opening_words)) l) l (words_of opening_words (lock_word l)) (get_elem? (map some (Some o.slots_are.types ∷ o.slots_are.bodies)) (slot_of l))
+  slot_is locks.Types is = record { at_home = λ _. (o.slots_are.types, refl, o.slots_are.agrees); out = λ busy. let z = free_at_first locks.Types in absurd (omega arith) }
   slot_is (locks.Row k) is =
-      let lt : k < length o.bodies = (let e = o.long in grind (arith, is, e)) in
-      let there = has_index o.bodies k lt in
-      let body = o.empty k there.0 there.1 in
+      let lt : k < length o.slots_are.bodies = (let e = o.slots_are.long in grind (arith, is, e)) in
+      let there = has_index o.slots_are.bodies k lt in
+      let body = o.slots_are.empty k there.0 there.1 in
       record {
         at_home = λ _. (
           stored.Body body.0,
-          at_map some o.bodies k there.0 there.1 ∙ ap (λ x. some (some x)) body.1,
+          at_map some o.slots_are.bodies k there.0 there.1 ∙ ap (λ x. some (some x)) body.1,
           (body.0, refl, record { full = λ h. absurd (no_dictionary (heads_of (words_of opening_words) k) (head_at_first k) h); empty = λ _. body.2 }),
         );
         out = λ busy. let z = free_at_first (locks.Row k) in absurd (omega arith);
       }
 
-  parts : Parts opened limits (words_of opening_words) (map some (Some o.types ∷ o.bodies)) (first_view limits ∷ []) (record { history = []; lists = opening_lists limits })
+  parts : Parts opened limits (words_of opening_words) (map some (Some o.slots_are.types ∷ o.slots_are.bodies)) (first_view limits ∷ []) (record { history = []; lists = opening_lists limits })
   parts = record {
     history = record {
       counted = refl;
@@ -165,8 +177,8 @@ module _ (opened : World) (limits : Limits) (a : Core) (allowed : IsAllowed limi
   }
 
   pub opens : CoreHolds opened limits a
-  opens = subst (CoreHolds opened limits) (sym o.after) (record {
-    table_holds = record { words_are = long_enough; slots_are = ap suc (length-map o.bodies some ∙ o.long); small = allowed; parts = parts };
+  opens = subst (CoreHolds opened limits) (sym (first_core opened limits a o)) (record {
+    table_holds = record { words_are = long_enough; slots_are = ap suc (length-map o.slots_are.bodies some ∙ o.slots_are.long); small = allowed; parts = parts };
     hands_are = λ id u l e is. each_one (λ i x. false ≡ holds l x) (first_view limits) (sym (nothing_held l)) id u e;
   })
 

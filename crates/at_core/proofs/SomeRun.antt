@@ -22,7 +22,7 @@ use Rattle.at_core.specs.Runs.{Core, Event, lock_take, lock_miss, lock_give, slo
 use Rattle.at_core.specs.SomeRun.{some_events, HaveEachKind, SomeRunGoes}
 use Rattle.at_core.proofs.WordLemmas.{updated_here, updated_else, stored}
 use Rattle.at_core.proofs.LockLemmas.{hold_beside, hold_kept}
-use Rattle.at_core.proofs.Opening.{has_index, free_at_first, head_at_first, no_dictionary, long_enough}
+use Rattle.at_core.proofs.Opening.{first_core, has_index, free_at_first, head_at_first, no_dictionary, long_enough}
 
 pub have_each_kind : HaveEachKind
 have_each_kind x y (lock_take id l) = (0, omega arith, refl)
@@ -232,8 +232,8 @@ module _ (opened : World) (limits : Limits) (words : List ℕ) (wide : length wo
 
 pub some_run_goes : SomeRunGoes
 some_run_goes opened limits a o =
-    let there = has_index o.bodies 0 (let e = o.long in omega arith) in
-    let body = o.empty 0 there.0 there.1 in
-    subst (λ s. (x y : Stored) × (b : Core) × Leads opened (some_events x y) s b) (sym o.after)
-    (goes opened limits opening_words long_enough (free_at_first locks.Types) (free_at_first (locks.Row 0)) (head_at_first 0) o.types o.agrees
-    (map some o.bodies) body.0 (at_map some o.bodies 0 there.0 there.1 ∙ ap (λ x. some (some x)) body.1) body.2)
+    let there = has_index o.slots_are.bodies 0 (let e = o.slots_are.long in omega arith) in
+    let body = o.slots_are.empty 0 there.0 there.1 in
+    subst (λ s. (x y : Stored) × (b : Core) × Leads opened (some_events x y) s b) (sym (first_core opened limits a o))
+    (goes opened limits opening_words long_enough (free_at_first locks.Types) (free_at_first (locks.Row 0)) (head_at_first 0) o.slots_are.types o.slots_are.agrees
+    (map some o.slots_are.bodies) body.0 (at_map some o.slots_are.bodies 0 there.0 there.1 ∙ ap (λ x. some (some x)) body.1) body.2)

@@ -6,11 +6,13 @@ pub mod family;
 pub mod laws;
 pub mod lock;
 mod locking;
+mod open_world;
 pub mod stored;
 #[cfg(test)]
 mod tests;
 pub mod world;
 
 pub use lock::Lock;
+pub use open_world::OpenFault;
 pub use stored::Stored;
 pub use world::{Pass, World};
