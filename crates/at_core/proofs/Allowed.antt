@@ -1,28 +1,30 @@
 -- What each call on the table owes: the step is allowed whatever the table is, and tells what its play says.
-use Rattle.std.proofs.Common.{◌≡◌, ◌≢◌, ℕ, suc, true, false, eqb, List, [], ◌∷◌, get_or, refl, sym, ap, ◌∙◌, subst, ⊎_elim, arith}
-use Rattle.std.specs.Prelude.{Some}
+use Rattle.std.proofs.Common.{◌≡◌, ◌≢◌, ℕ, zero, suc, ◌+◌, ◌<◌, ◌≤◌, ◌^◌, Bool, true, false, IsTrue, eqb, List, [], ◌∷◌, ◌++◌, length, get_or, set, refl, sym, ap, ◌∙◌, subst, ⊎_elim, arith}
+use Rattle.std.specs.Prelude.{Some, None, slice_set}
 use mathlib.Core.Option.{some, none}
+use mathlib.Core.List.{IsPrefix}
 use lib.ListN.{get_elem?}
 use prog.Atomic.{either}
-use Rattle.atomic_table.specs.Table.{Me, Act, keeps, takes, gives, step, stepped, carried_after, Valid, Allows, Splits, Joins}
+use Rattle.atomic_table.specs.Table.{Me, Act, keeps, takes, gives, rest, step, stepped, carried_after, Valid, Allows, Splits, Joins}
 use Rattle.atomic_table.proofs.Lists.{exchanged, at_map, at_set}
 use Rattle.at_value.specs.declared.limits.Limits.{Limits}
 use Rattle.at_model.specs.World.{World}
 use Rattle.at_model.specs.History.{replay}
+use Rattle.at_types.specs.Tags.{times}
 use Rattle.at_view.specs.declared.view.TypeLists.{TypeLists}
 use Rattle.at_view.specs.declared.view.View.{View}
 use Rattle.at_view.specs.Views.{blank}
-use Rattle.at_view.specs.Words.{family, first_index, number_of}
+use Rattle.at_view.specs.Words.{Word, family, first_index, number_of, is_there}
 use Rattle.at_view.proofs.WordLaws.{apart}
 use Rattle.at_core.specs.declared.lock.Lock as lock
 use Rattle.at_core.specs.declared.lock.Lock.TheVariants as locks
 use Rattle.at_core.specs.declared.stored.Stored.{Stored}
 use Rattle.at_core.specs.Heads.{Shape, shape_of}
 use Rattle.at_core.specs.Locks.{lock_word, slot_of, hold_of, holds}
-use Rattle.at_core.specs.Reads.{kin_read, limit_read, join_read}
-use Rattle.at_core.specs.Rule.{Slot, Board, Ghost, Holds, Base, IsLock, Agrees, words_of, heads_of, shape_under}
+use Rattle.at_core.specs.Reads.{kin_read, births_of, limit_read, join_read}
+use Rattle.at_core.specs.Rule.{Slot, Board, Ghost, Parts, Holds, Base, IsLock, Agrees, words_of, heads_of, shape_under}
 use Rattle.at_core.specs.Steps.{Moment, taken, missed, given, lists_given, ValueAgrees, MayGive, MaySplit, parted, child, lists_parted, MayJoin, merged, lists_joined, copied_heads}
-use Rattle.at_core.specs.Plays.{Took, Takes, Brought, Gives}
+use Rattle.at_core.specs.Plays.{IsWordOf, IsAlone, Took, Takes, Brought, Gives}
 use Rattle.at_core.proofs.Prefixes.{prefix_shorter}
 use Rattle.at_core.proofs.WordLemmas.{said}
 use Rattle.at_core.proofs.LockLemmas.{hold_taken, copy_taken}

@@ -1,6 +1,6 @@
 -- Which passes are live, and what one of them knows of the others.
-use Rattle.std.proofs.Common.{◌≡◌, ◌≢◌, ◌⊎◌, ℕ, zero, suc, ◌+◌, ◌<◌, ◌≤◌, ◌==◌, ◌&&◌, Bool, true, false, true≢false, List, [], ◌++◌, length, map, refl, sym, ap, ◌∙◌, subst, ⊎_elim, inl, inr, arith}
-use Rattle.std.specs.Prelude.{nat_lt}
+use Rattle.std.proofs.Common.{◌≡◌, ◌≢◌, ◌⊎◌, ℕ, zero, suc, ◌+◌, ◌<◌, ◌≤◌, ◌==◌, ◌&&◌, Bool, true, false, true≢false, List, [], ◌∷◌, ◌++◌, length, map, eqb, eq-eqb, refl, sym, ap, ◌∙◌, subst, ⊎_elim, inl, inr, arith}
+use Rattle.std.specs.Prelude.{nat_lt, count_by, sum_by}
 use Rattle.std.proofs.lemmas.Bool.{eqb-true}
 use mathlib.Core.Option.{some, some-injective}
 use mathlib.Core.List.{IsPrefix}
@@ -9,6 +9,7 @@ use native.Mathlib.Decide.{ℕ_discrete}
 use lib.ListN.{get_elem?}
 use Rattle.atomic_table.proofs.Lists.{at_map}
 use Rattle.at_value.specs.declared.limits.Limits.{Limits}
+use Rattle.at_value.specs.declared.operation.Op as op
 use Rattle.at_model.specs.World.{World}
 use Rattle.at_types.specs.Tags.{times}
 use Rattle.at_view.specs.declared.view.View.{View}
@@ -23,7 +24,7 @@ use Rattle.at_core.specs.Rule.{Homes, weight, is_born, has_number, Ghost, Parts}
 use Rattle.at_core.specs.Plays.{IsAlone, Found}
 use Rattle.at_core.proofs.Lists.{sum_has, sum_two, sum_some, map_back}
 use Rattle.at_core.proofs.Counts.{weight_same, weight_some, at_most_one, times_append}
-use Rattle.at_core.proofs.Prefixes.{prefix_whole}
+use Rattle.at_core.proofs.Prefixes.{prefix_length, prefix_whole}
 use Rattle.at_core.proofs.Parts.{seen_begins}
 
 both_true : (a b : Bool) → (a && b) ≡ true → (a ≡ true) × (b ≡ true)
