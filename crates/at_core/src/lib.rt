@@ -2,6 +2,7 @@
 //! rule.
 #![tactic(auto)]
 
+mod hand;
 pub mod laws;
 pub mod lock;
 mod locking;
