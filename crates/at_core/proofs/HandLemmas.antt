@@ -4,7 +4,7 @@ use Rattle.std.specs.Prelude.{Option, Some, None, is_some, nat_lt, position, if�
 use Rattle.std.specs.List.{position_or_len}
 use Rattle.std.proofs.lemmas.Bool.{eqb-true, lt-ltb}
 use Rattle.std.proofs.lemmas.List.{drop_more, take_more, take-map, drop-map, length-map}
-use Rattle.std.proofs.lemmas.Option.{none-some, cond_some}
+use Rattle.std.proofs.lemmas.Option.{none-some, same_Some, cond_some}
 use mathlib.Core.Logic.{dite}
 use native.Mathlib.Decide.{ℕ_discrete}
 use Rattle.atomic_table.specs.Table.{Me, turned}
@@ -15,9 +15,9 @@ use Rattle.at_core.specs.declared.lock.Lock as lock
 use Rattle.at_core.specs.Locks.{slot_of, holds}
 use Rattle.at_core.specs.Reads.{slot_number, in_hand}
 use Rattle.at_core.specs.Rule.{Slot, IsLock, weight}
-use Rattle.at_core.specs.Steps.{Moment, marked, taken}
+use Rattle.at_core.specs.Steps.{Moment, marked, taken, given}
 use Rattle.at_core.proofs.Counts.{times_cons, times_append, weight_same, weight_other, at_most_one}
-use Rattle.at_core.proofs.LockLemmas.{lock_cases, slot_apart, hold_marked, hold_taken, hold_beside}
+use Rattle.at_core.proofs.LockLemmas.{lock_cases, slot_apart, hold_marked, hold_taken, hold_beside, hold_given, hold_kept}
 
 module _ {A : Type 0} where
   abbrev pub numbers : List (ℕ × A) → List ℕ
@@ -210,3 +210,50 @@ module _ {A : Type 0} where
 
 pub right_rotated : (n : ℕ) (v : View) (slots : List (ℕ × Slot)) → AreOnce slots → IsRight (v, slots) → IsRight (v, rotated n slots)
 right_rotated n v slots once right l is = ap is_some (rotated_same n slots once (slot_of l)) ∙ right l is
+
+-- The slot in front
+
+module _ {A : Type 0} where
+  -- a slot that was brought to the front, with its value
+  pub brought_with : (n k : ℕ) (x : A) (slots was : List (ℕ × A)) → k ≡ n → (y : A) × (others : List (ℕ × A)) × (slots ≡ (k, y) ∷ others) → ((j : ℕ) → in_hand j slots ≡ in_hand j was) → in_hand n was ≡ Some x
+      → (others : List (ℕ × A)) × (slots ≡ (n, x) ∷ others)
+  brought_with n k x slots was same front keeps there =
+      let y = front.0 in
+      let others = front.1 in
+      let is : slots ≡ (n, y) ∷ others = front.2 ∙ ap (λ (m : ℕ). (m, y) ∷ others) same in
+      let value : y ≡ x = same_Some y x (sym (ap (in_hand n) is ∙ in_front n y others) ∙ (keeps n ∙ there)) in
+      (others, is ∙ ap (λ z. (n, z) ∷ others) value)
+
+  pub others_once : (slot : ℕ × A) (others : List (ℕ × A)) → AreOnce (slot ∷ others) → AreOnce others
+  others_once slot others once k =
+      let c = times_cons k slot.0 (numbers others) in
+      let o = once k in
+      omega arith
+
+  -- it isn't among the others
+  pub front_alone : (n : ℕ) (x : A) (others : List (ℕ × A)) → AreOnce ((n, x) ∷ others) → in_hand n others ≡ None
+  front_alone n x others once = by_test (in_hand n others) refl
+    where
+      by_test : (a : Option A) → in_hand n others ≡ a → in_hand n others ≡ None
+      by_test None is = is
+      by_test (Some y) is =
+          let more = among n others y is in
+          let one = weight_same n in
+          let c = times_cons n n (numbers others) in
+          let o = once n in
+          absurd (omega arith)
+
+  -- another value in it
+  pub as_many : (k n : ℕ) (x y : A) (others : List (ℕ × A)) → is_some (in_hand k ((n, y) ∷ others)) ≡ is_some (in_hand k ((n, x) ∷ others))
+  as_many k n x y others = by_test (k == n)
+    where
+      by_test : (t : Bool) → is_some (if t then Some y else in_hand k others) ≡ is_some (if t then Some x else in_hand k others)
+      by_test true = refl
+      by_test false = refl
+
+pub right_given : (l : lock.Lock) (v : View) (x : Slot) (others : List (ℕ × Slot)) → AreOnce ((slot_of l, x) ∷ others) → IsRight (v, (slot_of l, x) ∷ others) → IsRight (given l v, others)
+right_given l v x others once right k is = ⊎_elim
+    (λ (same : k ≡ l). subst (λ (j : lock.Lock). is_some (in_hand (slot_of j) others) ≡ holds j (given l v)) (sym same)
+        (ap is_some (front_alone (slot_of l) x others once) ∙ sym (ap (λ h. h.held) (hold_given l v))))
+    (λ (ne : k ≢ l). ap is_some (sym (in_others (slot_of k) (slot_of l) x others (slot_apart k l ne))) ∙ (right k is ∙ sym (ap (λ h. h.held) (hold_kept k l v ne))))
+    (lock_cases k l)

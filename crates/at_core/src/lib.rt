@@ -5,7 +5,7 @@
 mod hand;
 pub mod laws;
 pub mod lock;
-mod locking;
+pub mod locking;
 pub mod stored;
 #[cfg(test)]
 mod tests;
