@@ -39,23 +39,23 @@ module _ {A : Type 0} where
   not_among k (slot ∷ slots) out = dite (ℕ_discrete k slot.0)
       (λ (is : k ≡ slot.0). absurd (true≢false (ap is_some (sym (subst (λ (n : ℕ). in_hand n (slot ∷ slots) ≡ Some slot.1) (sym is) (in_front slot.0 slot.1 slots))) ∙ out)))
       (λ (ne : k ≢ slot.0).
-          let r = not_among k slots (ap is_some (sym (in_others k slot.0 slot.1 slots ne)) ∙ out) in
-          let o = weight_other slot.0 k (λ e. ne (sym e)) in
-          let c = times_cons k slot.0 (numbers slots) in
-          omega arith)
+      let r = not_among k slots (ap is_some (sym (in_others k slot.0 slot.1 slots ne)) ∙ out) in
+      let o = weight_other slot.0 k (λ e. ne (sym e)) in
+      let c = times_cons k slot.0 (numbers slots) in
+      omega arith)
 
   pub once_more : (n : ℕ) (x : A) (slots : List (ℕ × A)) → AreOnce slots → times n (numbers slots) ≡ 0 → AreOnce ((n, x) ∷ slots)
   once_more n x slots once none k = dite (ℕ_discrete n k)
       (λ (is : n ≡ k).
-          let m = at_most_one (n == k) in
-          let z : times k (numbers slots) ≡ 0 = subst (λ (j : ℕ). times j (numbers slots) ≡ 0) is none in
-          let c = times_cons k n (numbers slots) in
-          omega arith)
+      let m = at_most_one (n == k) in
+      let z : times k (numbers slots) ≡ 0 = subst (λ (j : ℕ). times j (numbers slots) ≡ 0) is none in
+      let c = times_cons k n (numbers slots) in
+      omega arith)
       (λ (ne : n ≢ k).
-          let o = weight_other n k ne in
-          let r = once k in
-          let c = times_cons k n (numbers slots) in
-          omega arith)
+      let o = weight_other n k ne in
+      let r = once k in
+      let c = times_cons k n (numbers slots) in
+      omega arith)
 
 -- A pass and its hand
 
@@ -69,7 +69,7 @@ right_marked v m slots right l is = right l is ∙ sym (ap (λ h. h.held) (hold_
 pub right_taken : (l : lock.Lock) (v : View) (at : Moment) (x : Slot) (slots : List (ℕ × Slot)) → IsRight (v, slots) → IsRight (taken l v at, (slot_of l, x) ∷ slots)
 right_taken l v at x slots right k is = ⊎_elim
     (λ (same : k ≡ l). subst (λ (j : lock.Lock). is_some (in_hand (slot_of j) ((slot_of l, x) ∷ slots)) ≡ holds j (taken l v at)) (sym same)
-        (ap is_some (in_front (slot_of l) x slots) ∙ sym (ap (λ h. h.held) (hold_taken l v at))))
+    (ap is_some (in_front (slot_of l) x slots) ∙ sym (ap (λ h. h.held) (hold_taken l v at))))
     (λ (ne : k ≢ l). ap is_some (in_others (slot_of k) (slot_of l) x slots (slot_apart k l ne)) ∙ (right k is ∙ sym (ap (λ h. h.held) (hold_beside k l v at ne))))
     (lock_cases k l)
 
@@ -81,7 +81,7 @@ module _ {A : Type 0} where
   in_first k [] others x e = absurd (none-some x e)
   in_first k (slot ∷ slots) others x e = dite (ℕ_discrete k slot.0)
       (λ (is : k ≡ slot.0). subst (λ (n : ℕ). in_hand n (slot ∷ slots) ≡ Some x → in_hand n (slot ∷ slots ++ others) ≡ Some x) (sym is)
-          (λ h. in_front slot.0 slot.1 (slots ++ others) ∙ (sym (in_front slot.0 slot.1 slots) ∙ h)) e)
+      (λ h. in_front slot.0 slot.1 (slots ++ others) ∙ (sym (in_front slot.0 slot.1 slots) ∙ h)) e)
       (λ (ne : k ≢ slot.0). in_others k slot.0 slot.1 (slots ++ others) ne ∙ in_first k slots others x (sym (in_others k slot.0 slot.1 slots ne) ∙ e))
 
   in_second : (k : ℕ) (slots others : List (ℕ × A)) → in_hand k slots ≡ None → in_hand k (slots ++ others) ≡ in_hand k others
@@ -94,13 +94,13 @@ module _ {A : Type 0} where
   among k [] x e = absurd (none-some x e)
   among k (slot ∷ slots) x e = dite (ℕ_discrete k slot.0)
       (λ (is : k ≡ slot.0).
-          let o : weight (slot.0 == k) ≡ 1 = subst (λ (n : ℕ). weight (slot.0 == n) ≡ 1) (sym is) (weight_same slot.0) in
-          let c = times_cons k slot.0 (numbers slots) in
-          omega arith)
+      let o : weight (slot.0 == k) ≡ 1 = subst (λ (n : ℕ). weight (slot.0 == n) ≡ 1) (sym is) (weight_same slot.0) in
+      let c = times_cons k slot.0 (numbers slots) in
+      omega arith)
       (λ (ne : k ≢ slot.0).
-          let r = among k slots x (sym (in_others k slot.0 slot.1 slots ne) ∙ e) in
-          let c = times_cons k slot.0 (numbers slots) in
-          omega arith)
+      let r = among k slots x (sym (in_others k slot.0 slot.1 slots ne) ∙ e) in
+      let c = times_cons k slot.0 (numbers slots) in
+      omega arith)
 
   numbers_of_both : (slots others : List (ℕ × A)) → numbers (slots ++ others) ≡ numbers slots ++ numbers others
   numbers_of_both [] others = refl
@@ -254,6 +254,6 @@ module _ {A : Type 0} where
 pub right_given : (l : lock.Lock) (v : View) (x : Slot) (others : List (ℕ × Slot)) → AreOnce ((slot_of l, x) ∷ others) → IsRight (v, (slot_of l, x) ∷ others) → IsRight (given l v, others)
 right_given l v x others once right k is = ⊎_elim
     (λ (same : k ≡ l). subst (λ (j : lock.Lock). is_some (in_hand (slot_of j) others) ≡ holds j (given l v)) (sym same)
-        (ap is_some (front_alone (slot_of l) x others once) ∙ sym (ap (λ h. h.held) (hold_given l v))))
+    (ap is_some (front_alone (slot_of l) x others once) ∙ sym (ap (λ h. h.held) (hold_given l v))))
     (λ (ne : k ≢ l). ap is_some (sym (in_others (slot_of k) (slot_of l) x others (slot_apart k l ne))) ∙ (right k is ∙ sym (ap (λ h. h.held) (hold_kept k l v ne))))
     (lock_cases k l)

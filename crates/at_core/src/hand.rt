@@ -34,7 +34,7 @@ impl Pass {
         ensures same { IsSame self.old self.new × (view self.new ≡ view self.old) }
         ensures front { (x : Slot) × (others : List (ℕ × Slot)) × (hand self.new ≡ (slot, x) ∷ others) }
         ensures slots { (k : ℕ) → in_hand k (hand self.new) ≡ in_hand k (hand self.old) }
-        ensures count { length (hand self.new) ≡ length (hand self.old) }
+        ensures as_long { length (hand self.new) ≡ length (hand self.old) }
     {
         if let Some(place) = place_of(&self.hand, slot) {
             turn_by(&mut self.seat, place);

@@ -70,10 +70,15 @@ pub fn try_lock(world: &World, pass: &mut Pass, lock: Lock) -> u64
         × (slot_at pass.new lock ≡ Some (Some x)) × Took (opening_of world.now.limits) lock (view pass.old) at x }
     ensures held { result ≢ 0 → (view pass.new ≡ missed lock (view pass.old) result) × Found (view pass.old) result }
     ensures elsewhere { IsElsewhereSame pass.old pass.new lock }
+    ensures longer { result ≡ 0 → length (hand pass.new) ≡ suc (length (hand pass.old)) }
+    ensures as_long { result ≢ 0 → length (hand pass.new) ≡ length (hand pass.old) }
 {
     let slot = lock.slot();
     let mine = u64::from(pass.number) + 1;
-    let found = world.table.shared.compare_exchange::<TakePlay>(&mut pass.seat, lock.word(), 0, mine);
+    let found = world
+        .table
+        .shared
+        .compare_exchange::<TakePlay>(&mut pass.seat, lock.word(), 0, mine);
     if found == 0 {
         pass.hand.insert(0, slot);
     }
@@ -90,11 +95,14 @@ pub fn unlock(world: &World, pass: &mut Pass, lock: Lock)
     ensures given { view pass.new ≡ given lock (view pass.old) }
     ensures gone { slot_at pass.new lock ≡ None }
     ensures elsewhere { IsElsewhereSame pass.old pass.new lock }
-    ensures count { suc (length (hand pass.new)) ≡ length (hand pass.old) }
+    ensures shorter { suc (length (hand pass.new)) ≡ length (hand pass.old) }
     ensures brought { Brought (view pass.old) }
 {
     pass.bring(lock.slot());
-    world.table.shared.store::<GivePlay>(&mut pass.seat, lock.word(), 0);
+    world
+        .table
+        .shared
+        .store::<GivePlay>(&mut pass.seat, lock.word(), 0);
     pass.hand.remove(0);
 }
 
@@ -106,11 +114,14 @@ fn replace(world: &World, pass: &mut Pass, lock: Lock, value: Option<Stored>) ->
     ensures before { slot_at pass.old lock ≡ Some result }
     ensures after { slot_at pass.new lock ≡ Some value }
     ensures elsewhere { IsElsewhereSame pass.old pass.new lock }
-    ensures count { length (hand pass.new) ≡ length (hand pass.old) }
+    ensures as_long { length (hand pass.new) ≡ length (hand pass.old) }
 {
     let slot = lock.slot();
     pass.bring(slot);
-    world.table.shared.exchange(&mut pass.seat, usize::from(slot), value)
+    world
+        .table
+        .shared
+        .exchange(&mut pass.seat, usize::from(slot), value)
 }
 
 /// Takes the value out of the slot of a lock that the pass holds, to work on it. The lock can't be given back before a
@@ -122,7 +133,7 @@ pub fn slot_out(world: &World, pass: &mut Pass, lock: Lock) -> Stored
     ensures value { slot_at pass.old lock ≡ Some (Some result) }
     ensures out { slot_at pass.new lock ≡ Some None }
     ensures elsewhere { IsElsewhereSame pass.old pass.new lock }
-    ensures count { length (hand pass.new) ≡ length (hand pass.old) }
+    ensures as_long { length (hand pass.new) ≡ length (hand pass.old) }
 {
     replace(world, pass, lock, None).unwrap()
 }
@@ -134,7 +145,7 @@ pub fn slot_in(world: &World, pass: &mut Pass, lock: Lock, value: Stored)
     ensures same { IsSame pass.old pass.new × IsOf pass.new world.now × (view pass.new ≡ view pass.old) }
     ensures within { slot_at pass.new lock ≡ Some (Some value) }
     ensures elsewhere { IsElsewhereSame pass.old pass.new lock }
-    ensures count { length (hand pass.new) ≡ length (hand pass.old) }
+    ensures as_long { length (hand pass.new) ≡ length (hand pass.old) }
 {
     replace(world, pass, lock, Some(value));
 }

@@ -1,4 +1,4 @@
-use Rattle.std.proofs.Common.{◌≡◌, ◌<◌, length, ap, ◌∙◌, arith}
+use Rattle.std.proofs.Common.{◌<◌, length, ap, ◌∙◌, arith}
 use Rattle.atomic_table.specs.Table.{turned}
 use Rattle.at_core.proofs.HandLemmas.{turned_more}
 use Rattle.at_core.proofs.hand.turn_by.Goals as goal

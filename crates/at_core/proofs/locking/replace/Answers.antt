@@ -1,4 +1,4 @@
-use Rattle.std.proofs.Common.{rules, ◌≡◌, ℕ, List, ◌∷◌, sym, ap, subst, ◌∙◌}
+use Rattle.std.proofs.Common.{◌≡◌, ℕ, List, ◌∷◌, sym, ap, subst, ◌∙◌}
 use Rattle.atomic_table.specs.Table.{Me, rest}
 use Rattle.at_view.specs.declared.view.View.{View}
 use Rattle.at_core.specs.Locks.{slot_of}

@@ -1,4 +1,4 @@
-use Rattle.std.proofs.Common.{rules, ◌≡◌, ◌≢◌, ℕ, ◌<◌, suc, List, ◌∷◌, drop, length, refl, sym, ap, subst, ◌∙◌, arith}
+use Rattle.std.proofs.Common.{◌≡◌, ℕ, ◌<◌, List, ◌∷◌, drop, sym, ap, subst, ◌∙◌}
 use Rattle.std.specs.Prelude.{Some, is_some}
 use mathlib.Core.Option.{none}
 use Rattle.atomic_table.specs.Table.{Allows, Me, rest, step}
@@ -28,8 +28,7 @@ store-requires c =
     let front = brought_with (slot_of l) c.slot.result (Some has.1) seat.me.1 c.args.pass.now.seat.me.1 c.slot.ensures.slot c.bring.ensures.front c.bring.ensures.slots has.2 in
     let me : seat.me ≡ (v, (slot_of l, Some has.1) ∷ front.0) = λ i. (c.bring.ensures.same.1 i, front.1 i) in
     let Q : ℕ × Me Slot View → Type 0 = λ q. Allows (Base opening table.key) table.table_id.slots seat.id q.1 q.0 (λ _. 0) (λ _. Gives (step table.table_id.slots q.0 0 0 none) q.1 0) in
-    let room : number_of (lock_word l) < table.table_id.words = subst (λ (n : ℕ). number_of (lock_word l) < n) (sym c.args.world.now.sized.0) (inside (lock_word l) c.slot.ensures.lock) in
-    (
+    let room : number_of (lock_word l) < table.table_id.words = subst (λ (n : ℕ). number_of (lock_word l) < n) (sym c.args.world.now.sized.0) (inside (lock_word l) c.slot.ensures.lock) in (
       c.bring.ensures.same.0.table ∙ c.requires.of.table,
       subst (λ (n : ℕ). n < table.table_id.words) (sym c.word.ensures) room,
       subst Q (λ i. (sym c.word.ensures i, sym me i)) (returns_it opening table.key table.table_id.slots seat.id v l has.0 has.1 front.0 c.slot.ensures.lock c.args.pass.now.live has.3),

@@ -1,11 +1,11 @@
-use Rattle.std.proofs.Common.{rules, ◌≡◌, ℕ, List, ◌∷◌, ◌++◌, ◌==◌, take, drop, length, map, refl, sym, ap, subst, ◌∙◌, arith}
+use Rattle.std.proofs.Common.{◌≡◌, ℕ, List, ◌++◌, ◌==◌, take, drop, length, refl, sym, ap, subst, ◌∙◌}
 use Rattle.std.specs.Prelude.{Some, None, position}
 use Rattle.atomic_table.specs.Table.{Me}
 use Rattle.at_types.proofs.KeptLemmas.{refilled}
 use Rattle.at_view.specs.declared.view.View.{View}
 use Rattle.at_core.specs.Reads.{in_hand}
 use Rattle.at_core.specs.Rule.{Slot}
-use Rattle.at_core.proofs.HandLemmas.{numbers, AreOnce, IsRight, rotated, rotated_once, rotated_same, rotated_numbers, right_rotated, comes, found_one}
+use Rattle.at_core.proofs.HandLemmas.{numbers, AreOnce, IsRight, rotated_once, rotated_same, rotated_numbers, right_rotated, comes, found_one}
 use Rattle.at_core.proofs.world.Pass.bring.Goals as goal
 
 pub invariant_of-self : goal.invariant_of-self
