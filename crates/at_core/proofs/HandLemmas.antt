@@ -1,9 +1,9 @@
 -- What a pass has in hand, by the numbers of slots.
-use Rattle.std.proofs.Common.{◌≡◌, ◌≢◌, ℕ, suc, ◌+◌, ◌<◌, ◌≤◌, ◌==◌, Bool, true, false, true≢false, List, [], ◌∷◌, ◌++◌, length, cond, not, map, get_or, take, drop, length-append, take-append-drop, append_assoc, eq-eqb, ne_eqb, refl, sym, ap, ◌∙◌, subst, ⊎_elim, arith}
+use Rattle.std.proofs.Common.{◌≡◌, ◌≢◌, ℕ, suc, ◌+◌, ◌<◌, ◌≤◌, ◌==◌, Bool, true, false, true≢false, List, [], ◌∷◌, ◌++◌, length, cond, not, map, get_or, take, drop, take-append-drop, append_assoc, eq-eqb, ne_eqb, refl, sym, ap, ◌∙◌, subst, ⊎_elim, arith}
 use Rattle.std.specs.Prelude.{Option, Some, None, is_some, nat_lt, position, if◌then◌else◌}
 use Rattle.std.specs.List.{position_or_len}
 use Rattle.std.proofs.lemmas.Bool.{eqb-true, lt-ltb}
-use Rattle.std.proofs.lemmas.List.{drop_more, take_more, take-map, drop-map, length-map}
+use Rattle.std.proofs.lemmas.List.{drop_more, take_more, take-map, drop-map, length-map, map-append}
 use Rattle.std.proofs.lemmas.Option.{none-some, same_Some, cond_some}
 use mathlib.Core.Logic.{dite}
 use native.Mathlib.Decide.{ℕ_discrete}
@@ -23,7 +23,7 @@ module _ {A : Type 0} where
   abbrev pub numbers : List (ℕ × A) → List ℕ
   numbers slots = map slot_number slots
 
-  -- each slot once
+  -- no slot twice
   abbrev pub AreOnce : List (ℕ × A) → Type 0
   AreOnce slots = (k : ℕ) → times k (numbers slots) ≤ 1
 
@@ -102,15 +102,11 @@ module _ {A : Type 0} where
       let c = times_cons k slot.0 (numbers slots) in
       omega arith)
 
-  numbers_of_both : (slots others : List (ℕ × A)) → numbers (slots ++ others) ≡ numbers slots ++ numbers others
-  numbers_of_both [] others = refl
-  numbers_of_both (slot ∷ slots) others = ap (λ ns. slot.0 ∷ ns) (numbers_of_both slots others)
-
   times_of_both : (k : ℕ) (slots others : List (ℕ × A)) → times k (numbers (slots ++ others)) ≡ times k (numbers slots) + times k (numbers others)
-  times_of_both k slots others = ap (times k) (numbers_of_both slots others) ∙ times_append k (numbers slots) (numbers others)
+  times_of_both k slots others = ap (times k) (map-append slot_number slots others) ∙ times_append k (numbers slots) (numbers others)
 
   -- the order of the two parts changes nothing
-  pub either_order : (slots others : List (ℕ × A)) → AreOnce (slots ++ others) → (k : ℕ) → in_hand k (others ++ slots) ≡ in_hand k (slots ++ others)
+  either_order : (slots others : List (ℕ × A)) → AreOnce (slots ++ others) → (k : ℕ) → in_hand k (others ++ slots) ≡ in_hand k (slots ++ others)
   either_order slots others once k = by_parts (in_hand k slots) (in_hand k others) refl refl
     where
       by_parts : (a b : Option A) → in_hand k slots ≡ a → in_hand k others ≡ b → in_hand k (others ++ slots) ≡ in_hand k (slots ++ others)
@@ -145,14 +141,7 @@ module _ {A : Type 0} where
   rotated_same n slots once k = either_order (take n slots) (drop n slots) (once_parted n slots once) k ∙ ap (in_hand k) (take-append-drop n slots)
 
   pub rotated_numbers : (n : ℕ) (slots : List (ℕ × A)) → drop n (numbers slots) ++ take n (numbers slots) ≡ numbers (rotated n slots)
-  rotated_numbers n slots = ap (λ (p : List ℕ × List ℕ). p.0 ++ p.1) (λ i. (drop-map slot_number n slots i, take-map slot_number n slots i)) ∙ sym (numbers_of_both (drop n slots) (take n slots))
-
-  pub rotated_length : (n : ℕ) (slots : List (ℕ × A)) → length (rotated n slots) ≡ length slots
-  rotated_length n slots =
-      let a = length-append (drop n slots) (take n slots) in
-      let b = length-append (take n slots) (drop n slots) in
-      let c = ap length (take-append-drop n slots) in
-      omega arith
+  rotated_numbers n slots = ap (λ (p : List ℕ × List ℕ). p.0 ++ p.1) (λ i. (drop-map slot_number n slots i, take-map slot_number n slots i)) ∙ sym (map-append slot_number (drop n slots) (take n slots))
 
   pub turned_more : (n : ℕ) (slots : List (ℕ × A)) → n < length slots → turned (rotated n slots) ≡ rotated (n + 1) slots
   turned_more n [] lt = absurd (omega arith)
@@ -187,9 +176,8 @@ module _ {A : Type 0} where
           let lt = rest.within in
           subst (λ (n : ℕ). StandsAt k n (slot ∷ slots)) at (record { within = omega arith; value = rest.value; others = rest.others; begins = rest.begins })
 
-  -- the place that is found is that of the slot, and one is found
+  -- a place that is found is that of the slot, which comes to the front if those before it go behind the others
   pub record Comes (k n : ℕ) (slots : List (ℕ × A)) : Type 0 where
-    pub within : n < length slots
     pub value : A
     pub others : List (ℕ × A)
     pub front : rotated n slots ≡ (k, value) ∷ others
@@ -198,8 +186,9 @@ module _ {A : Type 0} where
   comes k n slots there found =
       let s = stands k slots there in
       let here = (cond_some (nat_lt (place_of k slots) (length (numbers slots))) (place_of k slots) n found).1 in
-      subst (λ (m : ℕ). Comes k m slots) here (record { within = s.within; value = s.value; others = s.others ++ take (place_of k slots) slots; front = ap (λ rest. rest ++ take (place_of k slots) slots) s.begins })
+      subst (λ (m : ℕ). Comes k m slots) here (record { value = s.value; others = s.others ++ take (place_of k slots) slots; front = ap (λ rest. rest ++ take (place_of k slots) slots) s.begins })
 
+  -- and one is found
   pub found_one : (k : ℕ) (slots : List (ℕ × A)) → is_some (in_hand k slots) ≡ true → position (λ m. m == k) (numbers slots) ≡ None → ⊥
   found_one k slots there lost =
       let s = stands k slots there in
