@@ -1,20 +1,18 @@
 -- The rule holds after each step of each run.
-use Rattle.std.proofs.Common.{◌≡◌, ◌≢◌, ℕ, false, List, [], ◌∷◌, length, set, refl, sym, ap, ◌∙◌, subst, ⊎_elim, length-set}
+use Rattle.std.proofs.Common.{◌≡◌, ◌≢◌, ℕ, List, [], ◌∷◌, length, set, refl, sym, ap, ◌∙◌, subst, ⊎_elim, length-set}
 use Rattle.std.specs.Prelude.{Some, None, is_some}
 use mathlib.Core.Option.{some}
 use lib.ListN.{get_elem?}
 use Rattle.at_value.specs.declared.limits.Limits.{Limits}
 use Rattle.at_model.specs.World.{World}
-use Rattle.at_view.specs.declared.view.View.{View}
 use Rattle.at_view.specs.Views.{blank}
 use Rattle.at_core.specs.declared.lock.Lock as lock
-use Rattle.at_core.specs.declared.lock.Lock.TheVariants as locks
 use Rattle.at_core.specs.Locks.{slot_of, holds}
 use Rattle.at_core.specs.Rule.{Slot}
 use Rattle.at_core.specs.Steps.{taken, missed, given, parted, child, merged}
 use Rattle.at_core.specs.Runs.{Core, Event, lock_take, lock_miss, lock_give, slot_out, slot_in, split, join, moment_of, without_hand, Takes, Misses, Gives, Exchanges, Splits, Joins, Goes, CoreHolds, EveryRunHolds}
 use Rattle.at_core.proofs.Lists.{each_set}
-use Rattle.at_core.proofs.LockLemmas.{hold_taken, hold_beside, hold_given, hold_kept}
+use Rattle.at_core.proofs.LockLemmas.{hold_taken, hold_beside, hold_given, hold_kept, holds_parted, holds_child, holds_merged, holds_blank, holds_missed}
 use Rattle.at_core.proofs.Hands.{hands_changed, hands_exchanged, at_end, without_here, without_else}
 use Rattle.at_core.proofs.Moves.{take_moves, miss_moves, give_moves, split_moves, join_moves}
 
@@ -59,13 +57,13 @@ module _ (opened : World) (limits : Limits) where
     table_holds = split_moves opened limits a.table a.ghost h.table_holds id t.view t.makes.there t.makes.live [] t.number t.asked;
     hands_are = λ j u k e is. ⊎_elim
         (λ (x : (j ≢ length (set a.table.views id (parted t.view))) × (get_elem? (set a.table.views id (parted t.view)) j ≡ some u)).
-            let ne : j ≢ length a.table.views = λ z. x.0 (z ∙ sym (same_length a.table.views id (parted t.view))) in
-            ap is_some (without_else a (length a.table.views) j (slot_of k) ne)
-            ∙ each_set (λ i y. is_some (a.hands i (slot_of k)) ≡ holds k y) a.table.views id (parted t.view) (λ i y e'. h.hands_are i y k e' is)
-                (h.hands_are id t.view k t.makes.there is ∙ sym (holds_parted k t.view)) j u x.1)
+        let ne : j ≢ length a.table.views = λ z. x.0 (z ∙ sym (same_length a.table.views id (parted t.view))) in
+        ap is_some (without_else a (length a.table.views) j (slot_of k) ne)
+        ∙ each_set (λ i y. is_some (a.hands i (slot_of k)) ≡ holds k y) a.table.views id (parted t.view) (λ i y e'. h.hands_are i y k e' is)
+        (h.hands_are id t.view k t.makes.there is ∙ sym (holds_parted k t.view)) j u x.1)
         (λ (x : (j ≡ length (set a.table.views id (parted t.view))) × (child t.view ≡ u)).
-            let e' : j ≡ length a.table.views = x.0 ∙ same_length a.table.views id (parted t.view) in
-            ap (λ (n : ℕ). is_some (without_hand a (length a.table.views) n (slot_of k))) e' ∙ (ap is_some (without_here a (length a.table.views) (slot_of k)) ∙ (sym (holds_child k t.view) ∙ ap (holds k) x.1)))
+        let e' : j ≡ length a.table.views = x.0 ∙ same_length a.table.views id (parted t.view) in
+        ap (λ (n : ℕ). is_some (without_hand a (length a.table.views) n (slot_of k))) e' ∙ (ap is_some (without_here a (length a.table.views) (slot_of k)) ∙ (sym (holds_child k t.view) ∙ ap (holds k) x.1)))
         (at_end (set a.table.views id (parted t.view)) (child t.view) j u e);
   })
 
@@ -74,7 +72,7 @@ module _ (opened : World) (limits : Limits) where
     table_holds = join_moves opened limits a.table a.ghost h.table_holds id t.view t.makes.there t.makes.live [] other t.joined t.apart t.ends.there t.ends.live t.asked;
     hands_are = λ j u k e is. each_set (λ i y. is_some (a.hands i (slot_of k)) ≡ holds k y) (set a.table.views id (merged t.view t.joined)) other blank
         (each_set (λ i y. is_some (a.hands i (slot_of k)) ≡ holds k y) a.table.views id (merged t.view t.joined) (λ i y e'. h.hands_are i y k e' is)
-            (h.hands_are id t.view k t.makes.there is ∙ sym (holds_merged k t.view t.joined)))
+        (h.hands_are id t.view k t.makes.there is ∙ sym (holds_merged k t.view t.joined)))
         (h.hands_are other t.joined k t.ends.there is ∙ (t.asked.lockless k ∙ sym (holds_blank k))) j u e;
   })
 

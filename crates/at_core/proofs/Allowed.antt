@@ -1,30 +1,28 @@
 -- What each call on the table owes: the step is allowed whatever the table is, and tells what its play says.
-use Rattle.std.proofs.Common.{◌≡◌, ◌≢◌, ℕ, zero, suc, ◌+◌, ◌<◌, ◌≤◌, ◌^◌, Bool, true, false, IsTrue, eqb, List, [], ◌∷◌, ◌++◌, length, get_or, set, refl, sym, ap, ◌∙◌, subst, ⊎_elim, arith}
-use Rattle.std.specs.Prelude.{Some, None, slice_set}
+use Rattle.std.proofs.Common.{◌≡◌, ◌≢◌, ℕ, suc, true, false, eqb, List, [], ◌∷◌, get_or, refl, sym, ap, ◌∙◌, subst, ⊎_elim, arith}
+use Rattle.std.specs.Prelude.{Some}
 use mathlib.Core.Option.{some, none}
-use mathlib.Core.List.{IsPrefix}
 use lib.ListN.{get_elem?}
 use prog.Atomic.{either}
-use Rattle.atomic_table.specs.Table.{Me, Act, keeps, takes, gives, rest, step, stepped, carried_after, Valid, Allows, Splits, Joins}
+use Rattle.atomic_table.specs.Table.{Me, Act, keeps, takes, gives, step, stepped, carried_after, Valid, Allows, Splits, Joins}
 use Rattle.atomic_table.proofs.Lists.{exchanged, at_map, at_set}
 use Rattle.at_value.specs.declared.limits.Limits.{Limits}
 use Rattle.at_model.specs.World.{World}
 use Rattle.at_model.specs.History.{replay}
-use Rattle.at_types.specs.Tags.{times}
 use Rattle.at_view.specs.declared.view.TypeLists.{TypeLists}
 use Rattle.at_view.specs.declared.view.View.{View}
 use Rattle.at_view.specs.Views.{blank}
-use Rattle.at_view.specs.Words.{Word, family, first_index, number_of, is_there}
+use Rattle.at_view.specs.Words.{family, first_index, number_of}
 use Rattle.at_view.proofs.WordLaws.{apart}
 use Rattle.at_core.specs.declared.lock.Lock as lock
 use Rattle.at_core.specs.declared.lock.Lock.TheVariants as locks
 use Rattle.at_core.specs.declared.stored.Stored.{Stored}
 use Rattle.at_core.specs.Heads.{Shape, shape_of}
 use Rattle.at_core.specs.Locks.{lock_word, slot_of, hold_of, holds}
-use Rattle.at_core.specs.Reads.{kin_read, births_of, limit_read, join_read}
-use Rattle.at_core.specs.Rule.{Slot, Board, Ghost, Parts, Holds, Base, IsLock, Agrees, words_of, heads_of, shape_under}
+use Rattle.at_core.specs.Reads.{kin_read, limit_read, join_read}
+use Rattle.at_core.specs.Rule.{Slot, Board, Ghost, Holds, Base, IsLock, Agrees, words_of, heads_of, shape_under}
 use Rattle.at_core.specs.Steps.{Moment, taken, missed, given, lists_given, ValueAgrees, MayGive, MaySplit, parted, child, lists_parted, MayJoin, merged, lists_joined, copied_heads}
-use Rattle.at_core.specs.Plays.{IsWordOf, IsAlone, Took, Takes, Brought, Gives}
+use Rattle.at_core.specs.Plays.{Took, Takes, Brought, Gives}
 use Rattle.at_core.proofs.Prefixes.{prefix_shorter}
 use Rattle.at_core.proofs.WordLemmas.{said}
 use Rattle.at_core.proofs.LockLemmas.{hold_taken, copy_taken}
@@ -89,22 +87,22 @@ module _ (opened : World) (limits : Limits) where
       let n : ℕ = get_or s.words (number_of (lock_word l)) 0 in
       let word : words_of s.words (lock_word l) ≡ n = said s.words (lock_word l) is in
       let F : ℕ → Type 0 = λ k. (w : View) × (a : Act Slot) × Valid s.homes me.1 a × Base opened limits (stepped s (number_of (lock_word l)) k id me.1 w a)
-          × Takes opened (step slots (number_of (lock_word l)) 0 new none) me n (w, carried_after me.1 a) in
+      × Takes opened (step slots (number_of (lock_word l)) 0 new none) me n (w, carried_after me.1 a) in
       exchanged n 0 new F
       (λ free.
-          let home = (b.holds.parts.slots l is).at_home (word ∙ free) in
-          let x = home.0 in
-          let w : View = taken l v (now s g b.holds id v at live) in (
-            w,
-            takes (slot_of l) (Some x),
-            home.1,
-            subst (λ (k : ℕ). Base opened limits (stepped s (number_of (lock_word l)) k id me.1 w (takes (slot_of l) (Some x)))) (sym mine)
-                (record { ghost = g; holds = take_moves opened limits s g b.holds id v at live me.1 l x is (word ∙ free) }),
-            λ k k_is.
-                let same : l ≡ k = lock_one l k is k_is.there k_is.is in
-                let tells : (j : lock.Lock) → Type 0 = λ j. (n ≡ 0 → (a : Moment) × (y : Stored) × ◌≡◌ {A = Me Slot View} (w, (slot_of l, Some x) ∷ me.1) (taken j v a, (slot_of j, Some y) ∷ me.1) × Took opened j v a y) in
-                (refl, mine, subst tells same (λ _. (now s g b.holds id v at live, x, refl, took s g b.holds id v at live l x home.2)), λ busy. absurd (busy free)),
-          ))
+      let home = (b.holds.parts.slots l is).at_home (word ∙ free) in
+      let x = home.0 in
+      let w : View = taken l v (now s g b.holds id v at live) in (
+        w,
+        takes (slot_of l) (Some x),
+        home.1,
+        subst (λ (k : ℕ). Base opened limits (stepped s (number_of (lock_word l)) k id me.1 w (takes (slot_of l) (Some x)))) (sym mine)
+            (record { ghost = g; holds = take_moves opened limits s g b.holds id v at live me.1 l x is (word ∙ free) }),
+        λ k k_is.
+            let same : l ≡ k = lock_one l k is k_is.there k_is.is in
+            let tells : (j : lock.Lock) → Type 0 = λ j. (n ≡ 0 → (a : Moment) × (y : Stored) × ◌≡◌ {A = Me Slot View} (w, (slot_of l, Some x) ∷ me.1) (taken j v a, (slot_of j, Some y) ∷ me.1) × Took opened j v a y) in
+            (refl, mine, subst tells same (λ _. (now s g b.holds id v at live, x, refl, took s g b.holds id v at live l x home.2)), λ busy. absurd (busy free)),
+      ))
       (λ busy. (
         missed l v n,
         keeps,
@@ -118,7 +116,7 @@ module _ (opened : World) (limits : Limits) where
   -- a lock is given back
   pub returns_it : (slots id : ℕ) (v : View) (l : lock.Lock) (back : TypeLists) (x : Stored) (others : List (ℕ × Slot)) → IsLock l → v.who.live ≡ true → MayGive opened l v back x
       → let me : Me Slot View = (v, (slot_of l, Some x) ∷ others) in
-        Allows (Base opened limits) slots id me (number_of (lock_word l)) (λ _. 0) (λ _. Gives (step slots (number_of (lock_word l)) 0 0 none) me 0)
+      Allows (Base opened limits) slots id me (number_of (lock_word l)) (λ _. 0) (λ _. Gives (step slots (number_of (lock_word l)) 0 0 none) me 0)
   returns_it slots id v l back x others is live may s b deep at small = (
     given l v,
     gives,
@@ -140,9 +138,9 @@ module _ (opened : World) (limits : Limits) where
   pub joins : (id : ℕ) (v : View) (other : ℕ) (w : View) → v.who.live ≡ true → w.who.live ≡ true → MayJoin v w → Joins (Base opened limits) id v other w (merged v w) blank
   joins id v other w live live' may s b at ne at' =
       let there : get_elem? s.views other ≡ some w = ⊎_elim
-          (λ (t : (other ≡ id) × (merged v w ≡ w)). absurd (ne t.0))
-          (λ (t : (other ≢ id) × (get_elem? s.views other ≡ some w)). t.1)
-          (at_set s.views id other (merged v w) w at') in
+      (λ (t : (other ≡ id) × (merged v w ≡ w)). absurd (ne t.0))
+      (λ (t : (other ≢ id) × (get_elem? s.views other ≡ some w)). t.1)
+      (at_set s.views id other (merged v w) w at') in
       record {
         ghost = record (b.ghost) { lists = lists_joined b.ghost.lists w.who.number };
         holds = join_moves opened limits s b.ghost b.holds id v at live [] other w ne there live' may;

@@ -87,18 +87,18 @@ next_is_free numbers n e = by_test (position_or_len (λ b. b) numbers) refl (nat
 pub weight_set : (numbers : List Bool) (n k : ℕ) (b : Bool) → n < length numbers → weight (get_or (set numbers n b) k false) + weight (n == k) * weight (get_or numbers n false) ≡ weight (get_or numbers k false) + weight (n == k) * weight b
 weight_set numbers n k b lt = dite (ℕ_discrete k n)
     (λ (e : k ≡ n).
-        let here : weight (get_or (set numbers n b) k false) ≡ weight b = ap (λ (j : ℕ). weight (get_or (set numbers n b) j false)) e ∙ ap weight (get_or-set_same numbers n b false lt) in
-        let one : weight (n == k) ≡ 1 = ap weight (eq-eqb n k (sym e)) in
-        let was : weight (get_or numbers k false) ≡ weight (get_or numbers n false) = ap (λ (j : ℕ). weight (get_or numbers j false)) e in
-        let m = ap (λ (j : ℕ). j * weight (get_or numbers n false)) one in
-        let m' = ap (λ (j : ℕ). j * weight b) one in
-        omega arith)
+    let here : weight (get_or (set numbers n b) k false) ≡ weight b = ap (λ (j : ℕ). weight (get_or (set numbers n b) j false)) e ∙ ap weight (get_or-set_same numbers n b false lt) in
+    let one : weight (n == k) ≡ 1 = ap weight (eq-eqb n k (sym e)) in
+    let was : weight (get_or numbers k false) ≡ weight (get_or numbers n false) = ap (λ (j : ℕ). weight (get_or numbers j false)) e in
+    let m = ap (λ (j : ℕ). j * weight (get_or numbers n false)) one in
+    let m' = ap (λ (j : ℕ). j * weight b) one in
+    omega arith)
     (λ (ne : k ≢ n).
-        let same : weight (get_or (set numbers n b) k false) ≡ weight (get_or numbers k false) = ap weight (get_or-set_other numbers n k b false ne) in
-        let none : weight (n == k) ≡ 0 = weight_other n k (λ e. ne (sym e)) in
-        let m = ap (λ (j : ℕ). j * weight (get_or numbers n false)) none in
-        let m' = ap (λ (j : ℕ). j * weight b) none in
-        omega arith)
+    let same : weight (get_or (set numbers n b) k false) ≡ weight (get_or numbers k false) = ap weight (get_or-set_other numbers n k b false ne) in
+    let none : weight (n == k) ≡ 0 = weight_other n k (λ e. ne (sym e)) in
+    let m = ap (λ (j : ℕ). j * weight (get_or numbers n false)) none in
+    let m' = ap (λ (j : ℕ). j * weight b) none in
+    omega arith)
 
 pub count_set_free : (numbers : List Bool) (n : ℕ) (b : Bool) → n < length numbers → count_by (λ free. free) (set numbers n b) + weight (get_or numbers n false) ≡ count_by (λ free. free) numbers + weight b
 count_set_free numbers n b lt = sum_by-set (λ free. weight free) numbers n b false lt

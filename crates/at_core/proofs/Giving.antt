@@ -31,6 +31,7 @@ read_both xs ys i d e = sym (or_default xs i d) ∙ ap (λ (x : Option _). given
     given_or : {A : Type 0} → Option A → A → A
     given_or None d = d
     given_or (Some x) d = x
+
     or_default : {A : Type 0} (xs : List A) (i : ℕ) (d : A) → given_or (slice_get xs i) d ≡ get_or xs i d
     or_default [] i d = refl
     or_default (x ∷ xs) zero d = refl
@@ -38,17 +39,25 @@ read_both xs ys i d e = sym (or_default xs i d) ∙ ap (λ (x : Option _). given
 
 -- a value that agrees with a world agrees with each world in which the lock protected what it protects
 pub agrees_later : (limits : Limits) (before now : World) (lists : TypeLists) (shape : Shape) (l : lock.Lock) (x : Stored) → IsUnchanged l before now → Agrees limits before lists shape l x → Agrees limits now lists shape l x
-agrees_later limits before now lists shape locks.Types x same a = (a.0, a.1, record {
-  stands = record { classes = a.2.stands.classes ∙ sym same.0; objects = a.2.stands.objects ∙ ap length (sym same.1) };
-  size = a.2.size;
-  numbers = a.2.numbers;
-  pool = a.2.pool;
-  limbo = a.2.limbo;
-})
-agrees_later limits before now lists shape (locks.Row o) x same a = (a.0, a.1, record {
-  full = λ h. a.2.full h ∙ sym (read_both now.dicts before.dicts o [] same.1);
-  empty = a.2.empty;
-})
+agrees_later limits before now lists shape locks.Types x same a = (
+  a.0,
+  a.1,
+  record {
+    stands = record { classes = a.2.stands.classes ∙ sym same.0; objects = a.2.stands.objects ∙ ap length (sym same.1) };
+    size = a.2.size;
+    numbers = a.2.numbers;
+    pool = a.2.pool;
+    limbo = a.2.limbo;
+  },
+)
+agrees_later limits before now lists shape (locks.Row o) x same a = (
+  a.0,
+  a.1,
+  record {
+    full = λ h. a.2.full h ∙ sym (read_both now.dicts before.dicts o [] same.1);
+    empty = a.2.empty;
+  },
+)
 
 -- the lists count for the types alone
 pub agrees_lists : (limits : Limits) (w : World) (lists back : TypeLists) (shape : Shape) (l : lock.Lock) (x : Stored) → lists_given l back lists ≡ lists → Agrees limits w back shape l x → Agrees limits w lists shape l x
@@ -56,7 +65,6 @@ agrees_lists limits w lists back shape locks.Types x same a = subst (λ (ls : Ty
 agrees_lists limits w lists back shape (locks.Row o) x same a = a
 
 module _ (opened : World) (limits : Limits) (words : Words) (homes : Homes) (views : List View) (g : Ghost) (p : Parts opened limits words homes views g) (id : ℕ) (v : View) (at : get_elem? views id ≡ some v) (live : v.who.live ≡ true) where
-
   -- a copy of a head is the head
   pub head_copied : (l : lock.Lock) → holds l v ≡ true → shape_under (copied_heads v) l ≡ shape_under (heads_of words) l
   head_copied locks.Types held = refl
@@ -97,13 +105,13 @@ module _ (opened : World) (limits : Limits) (words : Words) (homes : Homes) (vie
     locks_after k = ⊎_elim
         (λ (e : k ≡ l). subst (λ (j : lock.Lock). LockRule (after (lock_word j)) (map (holder_read j) views_after)) (sym e) here)
         (λ (ne : k ≢ l). subst (λ (n : ℕ). LockRule n (map (holder_read k) views_after)) (sym (other_word words k l 0 ne))
-            (left_alone (holder_read k) (LockRule (words (lock_word k))) views id v w at (holder_same k ne) (p.locks k)))
+        (left_alone (holder_read k) (LockRule (words (lock_word k))) views id v w at (holder_same k ne) (p.locks k)))
         (lock_cases k l)
       where
         here : LockRule (after (lock_word l)) (map (holder_read l) views_after)
         here = subst (λ (n : ℕ). LockRule n (map (holder_read l) views_after)) (sym (updated_here words (lock_word l) 0))
             (changed (holder_read l) (LockRule 0) views id w
-                (lock_freed (map (holder_read l) views) id (holder_read l v) (holder_read l w) (words (lock_word l)) (p.locks l) (at_map (holder_read l) views id v at) may.held freed))
+            (lock_freed (map (holder_read l) views) id (holder_read l v) (holder_read l w) (words (lock_word l)) (p.locks l) (at_map (holder_read l) views id v at) may.held freed))
 
     -- the value agrees with the history as it is
     agrees_now : Agrees limits (replay opened g.history) g.lists (shape_under (heads_of after) l) l x
@@ -123,16 +131,16 @@ module _ (opened : World) (limits : Limits) (words : Words) (homes : Homes) (vie
     slots_after : (k : lock.Lock) → IsLock k → SlotRule limits (replay opened g.history) g.lists (shape_under (heads_of after) k) k (after (lock_word k)) (get_elem? homes_after (slot_of k))
     slots_after k k_is = ⊎_elim
         (λ (e : k ≡ l). subst (λ (j : lock.Lock). SlotRule limits (replay opened g.history) g.lists (shape_under (heads_of after) j) j (after (lock_word j)) (get_elem? homes_after (slot_of j))) (sym e)
-            (record {
-              at_home = λ _. (x, set_here homes (slot_of l) (some (Some x)) room, agrees_now);
-              out = λ busy. let z = updated_here words (lock_word l) 0 in absurd (lt_zero (after (lock_word l)) busy z);
-            }))
+        (record {
+          at_home = λ _. (x, set_here homes (slot_of l) (some (Some x)) room, agrees_now);
+          out = λ busy. let z = updated_here words (lock_word l) 0 in absurd (lt_zero (after (lock_word l)) busy z);
+        }))
         (λ (ne : k ≢ l).
-            let word = other_word words k l 0 ne in
-            let home = set_else homes (slot_of l) (slot_of k) (some (Some x)) (slot_apart k l ne) in
-            let heads = same_heads words l 0 in
-            let Q : (ℕ → ℕ) × ℕ × _ → Type 0 = λ y. SlotRule limits (replay opened g.history) g.lists (shape_under y.0 k) k y.1 y.2 in
-            subst Q (λ i. (sym heads i, sym word i, sym home i)) (p.slots k k_is))
+        let word = other_word words k l 0 ne in
+        let home = set_else homes (slot_of l) (slot_of k) (some (Some x)) (slot_apart k l ne) in
+        let heads = same_heads words l 0 in
+        let Q : (ℕ → ℕ) × ℕ × _ → Type 0 = λ y. SlotRule limits (replay opened g.history) g.lists (shape_under y.0 k) k y.1 y.2 in
+        subst Q (λ i. (sym heads i, sym word i, sym home i)) (p.slots k k_is))
         (lock_cases k l)
       where
         lt_zero : (n : ℕ) → 0 < n → n ≡ 0 → ⊥
@@ -141,22 +149,22 @@ module _ (opened : World) (limits : Limits) (words : Words) (homes : Homes) (vie
     kept_after : (k : lock.Lock) → KeptRule opened k g.history (map (kept_read k) views_after)
     kept_after k = ⊎_elim
         (λ (e : k ≡ l). changed (kept_read k) (KeptRule opened k g.history) views id w
-            (each_set (λ i u. u.hold.held ≡ true → KeptBy opened k g.history u) (map (kept_read k) views) id (kept_read k w) (p.kept k)
-                (λ held. absurd (true≢false (sym held ∙ ap (λ (j : lock.Lock). (hold_of j w).held) e ∙ freed)))))
+        (each_set (λ i u. u.hold.held ≡ true → KeptBy opened k g.history u) (map (kept_read k) views) id (kept_read k w) (p.kept k)
+        (λ held. absurd (true≢false (sym held ∙ ap (λ (j : lock.Lock). (hold_of j w).held) e ∙ freed)))))
         (λ (ne : k ≢ l). left_alone (kept_read k) (KeptRule opened k g.history) views id v w at (kept_same k ne) (p.kept k))
         (lock_cases k l)
 
     types_after : (k : lock.Lock) → l ≡ k → TypesRule g.lists (types_words words) (map types_read views_after)
     types_after locks.Types e = changed types_read (TypesRule g.lists (types_words words)) views id w
         (each_set (λ i u. u.held ≡ true → TypesCopied g.lists (types_words words) u) (map types_read views) id (types_read w) p.types
-            (λ held. absurd (true≢false (sym held ∙ ap (λ (j : lock.Lock). (given j v).types.hold.held) e))))
+        (λ held. absurd (true≢false (sym held ∙ ap (λ (j : lock.Lock). (given j v).types.hold.held) e))))
     types_after (locks.Row o) e = left_alone types_read (TypesRule g.lists (types_words words)) views id v w at (ap (λ (j : lock.Lock). types_read (given j v)) e) p.types
 
     rows_after : (o : ℕ) → RowRule (row_words words o) (map (row_read o) views_after)
     rows_after o = ⊎_elim
         (λ (e : locks.Row o ≡ l). changed (row_read o) (RowRule (row_words words o)) views id w
-            (each_set (λ i u. u.held ≡ true → u.words ≡ row_words words o) (map (row_read o) views) id (row_read o w) (p.rows o)
-                (λ held. absurd (true≢false (sym held ∙ ap (λ (j : lock.Lock). (hold_of j w).held) e ∙ freed)))))
+        (each_set (λ i u. u.held ≡ true → u.words ≡ row_words words o) (map (row_read o) views) id (row_read o w) (p.rows o)
+        (λ held. absurd (true≢false (sym held ∙ ap (λ (j : lock.Lock). (hold_of j w).held) e ∙ freed)))))
         (λ (ne : locks.Row o ≢ l). left_alone (row_read o) (RowRule (row_words words o)) views id v w at (row_same o ne) (p.rows o))
         (lock_cases (locks.Row o) l)
 

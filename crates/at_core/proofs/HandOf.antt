@@ -1,6 +1,6 @@
 -- A pass that holds no lock has nothing in hand.
-use Rattle.std.proofs.Common.{◌≡◌, ◌≢◌, ℕ, zero, suc, ◌+◌, ◌<◌, ◌==◌, Bool, true, false, true≢false, IsTrue, List, [], ◌∷◌, map, eq-eqb, refl, sym, ap, ◌∙◌, subst, arith}
-use Rattle.std.specs.Prelude.{Option, Some, None, is_some, nat_lt, if◌then◌else◌}
+use Rattle.std.proofs.Common.{◌≡◌, ℕ, zero, suc, ◌<◌, Bool, true, false, true≢false, List, [], ◌∷◌, map, eq-eqb, refl, sym, ap, ◌∙◌, arith}
+use Rattle.std.specs.Prelude.{Some, is_some, nat_lt, if◌then◌else◌}
 use Rattle.std.proofs.lemmas.Bool.Decides.{nat_tests}
 use Rattle.at_value.specs.Widths.{objects}
 use Rattle.at_types.specs.Tags.{times}

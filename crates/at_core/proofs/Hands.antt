@@ -32,9 +32,9 @@ hands_changed a id v w l slot right at here beside j u k e is =
     each_other (λ i x. is_some (with_hand a id l slot i (slot_of k)) ≡ holds k x) a.table.views id w
     (λ i x ne e'. ap is_some (hand_else a id i l k slot ne) ∙ right i x k e' is)
     (⊎_elim
-        (λ (same : k ≡ l). subst (λ (m : lock.Lock). is_some (with_hand a id l slot id (slot_of m)) ≡ holds m w) (sym same) (ap is_some (hand_here a id l slot) ∙ here))
-        (λ (ne : k ≢ l). ap is_some (hand_beside a id l k slot ne) ∙ (right id v k at is ∙ sym (beside k ne)))
-        (lock_cases k l))
+    (λ (same : k ≡ l). subst (λ (m : lock.Lock). is_some (with_hand a id l slot id (slot_of m)) ≡ holds m w) (sym same) (ap is_some (hand_here a id l slot) ∙ here))
+    (λ (ne : k ≢ l). ap is_some (hand_beside a id l k slot ne) ∙ (right id v k at is ∙ sym (beside k ne)))
+    (lock_cases k l))
     j u e
 
 -- or alone
@@ -42,12 +42,12 @@ pub hands_exchanged : (a : Core) (id : ℕ) (v : View) (l : lock.Lock) (slot : O
     → (j : ℕ) (u : View) (k : lock.Lock) → get_elem? a.table.views j ≡ some u → IsLock k → is_some (with_hand a id l slot j (slot_of k)) ≡ holds k u
 hands_exchanged a id v l slot right at here j u k e is = dite (ℕ_discrete j id)
     (λ (mine : j ≡ id).
-        let same : v ≡ u = some-injective v u (sym at ∙ (ap (get_elem? a.table.views) (sym mine) ∙ e)) in
-        subst (λ (x : ℕ × View). is_some (with_hand a id l slot x.0 (slot_of k)) ≡ holds k x.1) (λ i. (sym mine i, same i))
-            (⊎_elim
-                (λ (is_l : k ≡ l). subst (λ (m : lock.Lock). is_some (with_hand a id l slot id (slot_of m)) ≡ holds m v) (sym is_l) (ap is_some (hand_here a id l slot) ∙ here))
-                (λ (ne : k ≢ l). ap is_some (hand_beside a id l k slot ne) ∙ right id v k at is)
-                (lock_cases k l)))
+    let same : v ≡ u = some-injective v u (sym at ∙ (ap (get_elem? a.table.views) (sym mine) ∙ e)) in
+    subst (λ (x : ℕ × View). is_some (with_hand a id l slot x.0 (slot_of k)) ≡ holds k x.1) (λ i. (sym mine i, same i))
+    (⊎_elim
+    (λ (is_l : k ≡ l). subst (λ (m : lock.Lock). is_some (with_hand a id l slot id (slot_of m)) ≡ holds m v) (sym is_l) (ap is_some (hand_here a id l slot) ∙ here))
+    (λ (ne : k ≢ l). ap is_some (hand_beside a id l k slot ne) ∙ right id v k at is)
+    (lock_cases k l)))
     (λ (ne : j ≢ id). ap is_some (hand_else a id j l k slot ne) ∙ right j u k e is)
 
 -- what stands at an index of a list with one item more

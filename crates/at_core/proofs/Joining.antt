@@ -130,11 +130,11 @@ module _ (opened : World) (limits : Limits) (words : Words) (homes : Homes) (vie
         let o = h.owned q in omega arith;
     reached = each_after past_read (λ i u. (q : ℕ) → 0 < times q u.own → q ≤ length u.seen) h.reached
         (λ q has.
-            let a = times_append q v.history.own w.history.own in
-            ⊎_elim
-            (λ (x : 0 < times q v.history.own). let r = h.reached id (past_read v) (at_map past_read views id v at) q x in let n = prefix_length v.history.seen (longer v.history.seen w.history.seen) long.has_first in omega arith)
-            (λ (x : 0 < times q w.history.own). let r = h.reached other (past_read w) (at_map past_read views other w at') q x in let n = prefix_length w.history.seen (longer v.history.seen w.history.seen) long.has_second in omega arith)
-            (one_of (times q v.history.own) (times q w.history.own) (omega arith)))
+        let a = times_append q v.history.own w.history.own in
+        ⊎_elim
+        (λ (x : 0 < times q v.history.own). let r = h.reached id (past_read v) (at_map past_read views id v at) q x in let n = prefix_length v.history.seen (longer v.history.seen w.history.seen) long.has_first in omega arith)
+        (λ (x : 0 < times q w.history.own). let r = h.reached other (past_read w) (at_map past_read views other w at') q x in let n = prefix_length w.history.seen (longer v.history.seen w.history.seen) long.has_second in omega arith)
+        (one_of (times q v.history.own) (times q w.history.own) (omega arith)))
         (λ q has. absurd (omega arith));
   }
 
@@ -174,27 +174,27 @@ module _ (opened : World) (limits : Limits) (words : Words) (homes : Homes) (vie
         let r = k.distinct b in omega arith;
     later = each_after kin_read (λ i u. (b : ℕ) → 0 < times b u.children → u.birth < b) k.later
         (λ b h.
-            let a = times_append b (without w.history.birth v.who.children) w.who.children in
-            let d = times_without b w.history.birth v.who.children may.child in
-            let mine = k.later id (kin_read v) (at_map kin_read views id v at) in
-            ⊎_elim
-            (λ (x : 0 < times b (without w.history.birth v.who.children)). mine b (omega arith))
-            (λ (x : 0 < times b w.who.children). let lt = k.later other (kin_read w) (at_map kin_read views other w at') b x in let lt' = mine w.history.birth may.child in omega arith)
-            (one_of (times b (without w.history.birth v.who.children)) (times b w.who.children) (omega arith)))
+        let a = times_append b (without w.history.birth v.who.children) w.who.children in
+        let d = times_without b w.history.birth v.who.children may.child in
+        let mine = k.later id (kin_read v) (at_map kin_read views id v at) in
+        ⊎_elim
+        (λ (x : 0 < times b (without w.history.birth v.who.children)). mine b (omega arith))
+        (λ (x : 0 < times b w.who.children). let lt = k.later other (kin_read w) (at_map kin_read views other w at') b x in let lt' = mine w.history.birth may.child in omega arith)
+        (one_of (times b (without w.history.birth v.who.children)) (times b w.who.children) (omega arith)))
         (λ b h. absurd (omega arith));
     below = each_after kin_read (λ i u. u.birth < g.lists.next_birth) k.below (k.below id (kin_read v) (at_map kin_read views id v at)) (let lt = k.below id (kin_read v) (at_map kin_read views id v at) in omega arith);
     kept_below = each_after kin_read (λ i u. (b : ℕ) → 0 < times b u.kept → b < g.lists.next_birth) k.kept_below
         (λ b h.
-            let a = kept_joined b in
-            let new = k.below other (kin_read w) (at_map kin_read views other w at') in
-            dite (ℕ_discrete w.history.birth b)
-            (λ (is : w.history.birth ≡ b). omega arith)
-            (λ (ne : w.history.birth ≢ b).
-                let z = weight_other w.history.birth b ne in
-                ⊎_elim
-                (λ (x : 0 < times b (births_of v.kept)). k.kept_below id (kin_read v) (at_map kin_read views id v at) b x)
-                (λ (x : 0 < times b (births_of w.kept)). k.kept_below other (kin_read w) (at_map kin_read views other w at') b x)
-                (one_of (times b (births_of v.kept)) (times b (births_of w.kept)) (omega arith))))
+        let a = kept_joined b in
+        let new = k.below other (kin_read w) (at_map kin_read views other w at') in
+        dite (ℕ_discrete w.history.birth b)
+        (λ (is : w.history.birth ≡ b). omega arith)
+        (λ (ne : w.history.birth ≢ b).
+        let z = weight_other w.history.birth b ne in
+        ⊎_elim
+        (λ (x : 0 < times b (births_of v.kept)). k.kept_below id (kin_read v) (at_map kin_read views id v at) b x)
+        (λ (x : 0 < times b (births_of w.kept)). k.kept_below other (kin_read w) (at_map kin_read views other w at') b x)
+        (one_of (times b (births_of v.kept)) (times b (births_of w.kept)) (omega arith))))
         (λ b h. absurd (omega arith));
   }
 
@@ -248,13 +248,13 @@ module _ (opened : World) (limits : Limits) (words : Words) (homes : Homes) (vie
     holder = λ busy. let o = r.holder busy in
         dite (ℕ_discrete o.0 id)
         (λ (mine : o.0 ≡ id).
-            let held : (holder_read k v).held ≡ true = ap (λ (u : HolderRead). u.held) (some-injective (holder_read k v) o.1 (sym (at_map (holder_read k) views id v at) ∙ ap (get_elem? (map (holder_read k) views)) (sym mine) ∙ o.2)) ∙ o.3 in
-            (id, holder_read k m, part_after (holder_read k) (λ xs. get_elem? xs id ≡ some (holder_read k m)) (set_else (set (map (holder_read k) views) id (holder_read k m)) other id (holder_read k blank) (λ e. apart (sym e)) ∙ set_here (map (holder_read k) views) id (holder_read k m) (there (map (holder_read k) views) id (holder_read k v) (at_map (holder_read k) views id v at))), ap (λ (u : HolderRead). u.held) same ∙ held))
+        let held : (holder_read k v).held ≡ true = ap (λ (u : HolderRead). u.held) (some-injective (holder_read k v) o.1 (sym (at_map (holder_read k) views id v at) ∙ ap (get_elem? (map (holder_read k) views)) (sym mine) ∙ o.2)) ∙ o.3 in
+        (id, holder_read k m, part_after (holder_read k) (λ xs. get_elem? xs id ≡ some (holder_read k m)) (set_else (set (map (holder_read k) views) id (holder_read k m)) other id (holder_read k blank) (λ e. apart (sym e)) ∙ set_here (map (holder_read k) views) id (holder_read k m) (there (map (holder_read k) views) id (holder_read k v) (at_map (holder_read k) views id v at))), ap (λ (u : HolderRead). u.held) same ∙ held))
         (λ (ne : o.0 ≢ id). dite (ℕ_discrete o.0 other)
-            (λ (gone : o.0 ≡ other).
-                let free : (holder_read k w).held ≡ true = ap (λ (u : HolderRead). u.held) (some-injective (holder_read k w) o.1 (sym (at_map (holder_read k) views other w at') ∙ ap (get_elem? (map (holder_read k) views)) (sym gone) ∙ o.2)) ∙ o.3 in
-                absurd (true≢false (sym free ∙ may.lockless k)))
-            (λ (ne' : o.0 ≢ other). (o.0, o.1, part_after (holder_read k) (λ xs. get_elem? xs o.0 ≡ some o.1) (set_else (set (map (holder_read k) views) id (holder_read k m)) other o.0 (holder_read k blank) ne' ∙ (set_else (map (holder_read k) views) id o.0 (holder_read k m) ne ∙ o.2)), o.3)));
+        (λ (gone : o.0 ≡ other).
+        let free : (holder_read k w).held ≡ true = ap (λ (u : HolderRead). u.held) (some-injective (holder_read k w) o.1 (sym (at_map (holder_read k) views other w at') ∙ ap (get_elem? (map (holder_read k) views)) (sym gone) ∙ o.2)) ∙ o.3 in
+        absurd (true≢false (sym free ∙ may.lockless k)))
+        (λ (ne' : o.0 ≢ other). (o.0, o.1, part_after (holder_read k) (λ xs. get_elem? xs o.0 ≡ some o.1) (set_else (set (map (holder_read k) views) id (holder_read k m)) other o.0 (holder_read k blank) ne' ∙ (set_else (map (holder_read k) views) id o.0 (holder_read k m) ne ∙ o.2)), o.3)));
   }
     where
       was : (i : ℕ) (u : HolderRead) → get_elem? (map (holder_read k) views_joined) i ≡ some u → u.held ≡ true → (x : HolderRead) × ((get_elem? (map (holder_read k) views) i ≡ some x) × (x.held ≡ true))
@@ -269,9 +269,9 @@ module _ (opened : World) (limits : Limits) (words : Words) (homes : Homes) (vie
   types_after : TypesRule (lists_joined g.lists w.who.number) (types_words words) (map types_read views_joined)
   types_after = part_after types_read (Each TypesAfter)
       (each_set TypesAfter (set (map types_read views) id (types_read m)) other (types_read blank)
-          (each_other TypesAfter (map types_read views) id (types_read m) others
-              (λ _. record { lists_are = ap (λ (ls : TypeLists). lists_joined ls w.who.number) lists_are; words_are = (p.types id (types_read v) (at_map types_read views id v at) may.alone.types).words_are }))
-          (λ on. absurd (true≢false (sym on))))
+      (each_other TypesAfter (map types_read views) id (types_read m) others
+      (λ _. record { lists_are = ap (λ (ls : TypeLists). lists_joined ls w.who.number) lists_are; words_are = (p.types id (types_read v) (at_map types_read views id v at) may.alone.types).words_are }))
+      (λ on. absurd (true≢false (sym on))))
     where
       others : (j : ℕ) (u : TypesRead) → j ≢ id → get_elem? (map types_read views) j ≡ some u → u.held ≡ true → TypesCopied (lists_joined g.lists w.who.number) (types_words words) u
       others j u ne e on =

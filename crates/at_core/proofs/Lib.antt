@@ -6,6 +6,7 @@ pub mod Parts
 pub mod Taking
 pub mod Giving
 pub mod Counts
+pub mod HandLemmas
 pub mod Splitting
 pub mod Joining
 pub mod Opening

@@ -1,6 +1,6 @@
 -- Which passes are live, and what one of them knows of the others.
-use Rattle.std.proofs.Common.{◌≡◌, ◌≢◌, ◌⊎◌, ℕ, zero, suc, ◌+◌, ◌<◌, ◌≤◌, ◌==◌, ◌&&◌, Bool, true, false, true≢false, List, [], ◌∷◌, ◌++◌, length, map, eqb, eq-eqb, refl, sym, ap, ◌∙◌, subst, ⊎_elim, inl, inr, arith}
-use Rattle.std.specs.Prelude.{nat_lt, count_by, sum_by}
+use Rattle.std.proofs.Common.{◌≡◌, ◌≢◌, ◌⊎◌, ℕ, zero, suc, ◌+◌, ◌<◌, ◌≤◌, ◌==◌, ◌&&◌, Bool, true, false, true≢false, List, [], ◌++◌, length, map, refl, sym, ap, ◌∙◌, subst, ⊎_elim, inl, inr, arith}
+use Rattle.std.specs.Prelude.{nat_lt}
 use Rattle.std.proofs.lemmas.Bool.{eqb-true}
 use mathlib.Core.Option.{some, some-injective}
 use mathlib.Core.List.{IsPrefix}
@@ -9,7 +9,6 @@ use native.Mathlib.Decide.{ℕ_discrete}
 use lib.ListN.{get_elem?}
 use Rattle.atomic_table.proofs.Lists.{at_map}
 use Rattle.at_value.specs.declared.limits.Limits.{Limits}
-use Rattle.at_value.specs.declared.operation.Op as op
 use Rattle.at_model.specs.World.{World}
 use Rattle.at_types.specs.Tags.{times}
 use Rattle.at_view.specs.declared.view.View.{View}
@@ -24,7 +23,7 @@ use Rattle.at_core.specs.Rule.{Homes, weight, is_born, has_number, Ghost, Parts}
 use Rattle.at_core.specs.Plays.{IsAlone, Found}
 use Rattle.at_core.proofs.Lists.{sum_has, sum_two, sum_some, map_back}
 use Rattle.at_core.proofs.Counts.{weight_same, weight_some, at_most_one, times_append}
-use Rattle.at_core.proofs.Prefixes.{prefix_length, prefix_whole}
+use Rattle.at_core.proofs.Prefixes.{prefix_whole}
 use Rattle.at_core.proofs.Parts.{seen_begins}
 
 both_true : (a b : Bool) → (a && b) ≡ true → (a ≡ true) × (b ≡ true)
@@ -59,22 +58,22 @@ module _ {opened : World} {limits : Limits} {words : Words} {homes : Homes} {vie
   one_birth : (i j : ℕ) (u w : View) → get_elem? views i ≡ some u → get_elem? views j ≡ some w → u.who.live ≡ true → w.who.live ≡ true → u.history.birth ≡ w.history.birth → i ≡ j
   one_birth i j u w e e' live live' same = dite (ℕ_discrete i j) (λ (is : i ≡ j). is)
       (λ (ne : i ≢ j).
-          let two = sum_two (λ (k : KinRead). weight (is_born u.history.birth k)) (map kin_read views) j i (kin_read w) (kin_read u) ne (at_map kin_read views j w e') (at_map kin_read views i u e) in
-          let a = born_one i u e live in
-          let b : weight (is_born u.history.birth (kin_read w)) ≡ 1 = ap (λ (k : ℕ). weight (is_born k (kin_read w))) same ∙ born_one j w e' live' in
-          let d = p.kin.distinct u.history.birth in
-          absurd (omega arith))
+      let two = sum_two (λ (k : KinRead). weight (is_born u.history.birth k)) (map kin_read views) j i (kin_read w) (kin_read u) ne (at_map kin_read views j w e') (at_map kin_read views i u e) in
+      let a = born_one i u e live in
+      let b : weight (is_born u.history.birth (kin_read w)) ≡ 1 = ap (λ (k : ℕ). weight (is_born k (kin_read w))) same ∙ born_one j w e' live' in
+      let d = p.kin.distinct u.history.birth in
+      absurd (omega arith))
 
   -- two live views have two numbers
   pub one_number : (i j : ℕ) (u w : View) → get_elem? views i ≡ some u → get_elem? views j ≡ some w → u.who.live ≡ true → w.who.live ≡ true → u.who.number ≡ w.who.number → i ≡ j
   one_number i j u w e e' live live' same = dite (ℕ_discrete i j) (λ (is : i ≡ j). is)
       (λ (ne : i ≢ j).
-          let two = sum_two (λ (k : NumberRead). weight (has_number u.who.number k)) (map number_read views) j i (number_read w) (number_read u) ne (at_map number_read views j w e') (at_map number_read views i u e) in
-          let a : weight (has_number u.who.number (number_read u)) ≡ 1 = ap (λ (t : Bool). weight (t && (u.who.number == u.who.number))) live ∙ weight_same u.who.number in
-          let b : weight (has_number u.who.number (number_read w)) ≡ 1 = ap (λ (k : ℕ). weight (has_number k (number_read w))) same ∙ (ap (λ (t : Bool). weight (t && (w.who.number == w.who.number))) live' ∙ weight_same w.who.number) in
-          let d = p.numbers.each u.who.number in
-          let m = at_most_one (nat_lt u.who.number passes) in
-          absurd (omega arith))
+      let two = sum_two (λ (k : NumberRead). weight (has_number u.who.number k)) (map number_read views) j i (number_read w) (number_read u) ne (at_map number_read views j w e') (at_map number_read views i u e) in
+      let a : weight (has_number u.who.number (number_read u)) ≡ 1 = ap (λ (t : Bool). weight (t && (u.who.number == u.who.number))) live ∙ weight_same u.who.number in
+      let b : weight (has_number u.who.number (number_read w)) ≡ 1 = ap (λ (k : ℕ). weight (has_number k (number_read w))) same ∙ (ap (λ (t : Bool). weight (t && (w.who.number == w.who.number))) live' ∙ weight_same w.who.number) in
+      let d = p.numbers.each u.who.number in
+      let m = at_most_one (nat_lt u.who.number passes) in
+      absurd (omega arith))
 
   -- a live view's number is one of a pass
   pub number_small : (j : ℕ) (u : View) → get_elem? views j ≡ some u → u.who.live ≡ true → u.who.number < passes
@@ -141,6 +140,7 @@ module _ {opened : World} {limits : Limits} {words : Words} {homes : Homes} {vie
       where
         seen : IsPrefix v.history.seen g.history
         seen = seen_begins p id v at
+
         by_length : (n : ℕ) → length g.history ≡ n → g.history ≡ v.history.seen
         by_length zero is = sym (prefix_whole v.history.seen g.history seen (omega arith))
         by_length (suc n) is =
@@ -182,13 +182,13 @@ module _ {opened : World} {limits : Limits} {words : Words} {homes : Homes} {vie
         let a = times_append b v.who.children (births_of v.kept) in
         ⊎_elim
         (λ (x : 0 < times b v.who.children).
-            let lt = p.kin.later id (kin_read v) (at_map kin_read views id v at) b x in
-            let has = sum_has (λ (k : KinRead). times b k.children) (map kin_read views) id (kin_read v) (at_map kin_read views id v at) in
-            let c = p.kin.children b (omega arith) in
-            let s = sum_some (λ (k : KinRead). weight (is_born b k)) (map kin_read views) (omega arith) in
-            let born : s.1.birth ≡ b = eqb-true s.1.birth b (both_true s.1.live (s.1.birth == b) (weight_some (is_born b s.1) s.3)).1 in
-            let below = p.kin.below s.0 s.1 s.2 in
-            omega arith)
+        let lt = p.kin.later id (kin_read v) (at_map kin_read views id v at) b x in
+        let has = sum_has (λ (k : KinRead). times b k.children) (map kin_read views) id (kin_read v) (at_map kin_read views id v at) in
+        let c = p.kin.children b (omega arith) in
+        let s = sum_some (λ (k : KinRead). weight (is_born b k)) (map kin_read views) (omega arith) in
+        let born : s.1.birth ≡ b = eqb-true s.1.birth b (both_true s.1.live (s.1.birth == b) (weight_some (is_born b s.1) s.3)).1 in
+        let below = p.kin.below s.0 s.1 s.2 in
+        omega arith)
         (λ (x : 0 < times b (births_of v.kept)). p.kin.kept_below id (kin_read v) (at_map kin_read views id v at) b x)
         (one_of (times b v.who.children) (times b (births_of v.kept)) (omega arith))
 

@@ -65,7 +65,7 @@ module _ (opened : World) (limits : Limits) (s : Board) (g : Ghost) (h : Holds o
         let same : lists_given l back g.lists ≡ g.lists = lists_stay opened limits (words_of s.words) s.homes s.views g h.parts id v at live l back x may in
         let Q : Words × TypeLists → Type 0 = λ y. Parts opened limits y.0 (set s.homes (slot_of l) (some (Some x))) (set s.views id (given l v)) (record g { lists = y.1 }) in
         subst Q (λ i. (sym (stored s.words h.words_are (lock_word l) 0 is) i, sym same i))
-            (give_keeps opened limits (words_of s.words) s.homes s.views g h.parts id v at live l back x may (room l is));
+        (give_keeps opened limits (words_of s.words) s.homes s.views g h.parts id v at live l back x may (room l is));
   }
 
   pub split_moves : (number : ℕ) → MaySplit v number → Holds opened limits (with_views s (set s.views id (parted v) ++ child v ∷ [])) (record g { lists = lists_parted g.lists })

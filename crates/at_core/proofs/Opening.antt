@@ -1,14 +1,17 @@
 -- The opening state.
-use Rattle.std.proofs.Common.{◌≡◌, ℕ, zero, suc, ◌+◌, ◌-◌, ◌<◌, ◌≤◌, ◌==◌, ◌&&◌, Bool, true, false, true≢false, List, [], ◌∷◌, length, map, get_or, replicate, refl, sym, ap, ◌∙◌, subst, arith}
-use Rattle.std.specs.Prelude.{Some, count_by, nat_lt, if◌then◌else◌}
+use Rattle.std.proofs.Common.{◌≡◌, ℕ, zero, suc, ◌+◌, ◌-◌, ◌<◌, ◌≤◌, ◌==◌, ◌&&◌, Bool, true, false, true≢false, List, [], ◌∷◌, ◌++◌, length, map, get_or, replicate, refl, sym, ap, ◌∙◌, subst, ⊎_elim, arith, length-append}
+use Rattle.std.specs.Prelude.{Some, None, count_by, nat_lt, if◌then◌else◌}
 use Rattle.std.proofs.lemmas.Bool.Decides.{nat_tests}
 use Rattle.std.proofs.lemmas.List.{length-replicate, length-map}
 use Rattle.std.proofs.lemmas.List.Sums.{sum_by-cons}
 use mathlib.Core.Option.{some}
 use lib.ListN.{get_elem?}
-use Rattle.atomic_table.proofs.Lists.{at_map}
+use Rattle.atomic_table.specs.Table.{opening}
+use Rattle.atomic_table.proofs.Lists.{at_map, at_snoc}
+use Rattle.at_value.specs.Widths.{objects}
 use Rattle.at_value.specs.declared.limits.Limits.{Limits}
 use Rattle.at_model.specs.World.{World}
+use Rattle.at_dict.specs.Dictionary.{Dictionary}
 use Rattle.at_view.specs.declared.view.View.{View}
 use Rattle.at_view.specs.Counts.{passes}
 use Rattle.at_view.specs.Views.{first_view}
@@ -19,8 +22,10 @@ use Rattle.at_core.specs.declared.stored.Stored.TheVariants as stored
 use Rattle.at_core.specs.Heads.{shape_of, HasDictionary}
 use Rattle.at_core.specs.Locks.{lock_word, slot_of, holds}
 use Rattle.at_core.specs.Reads.{past_read, kin_read, holder_read, kept_read, types_read, row_read, join_read, limit_read}
-use Rattle.at_core.specs.Rule.{Homes, weight, LockRule, SlotRule, IsLock, Parts, words_of, heads_of, shape_under}
-use Rattle.at_core.specs.Runs.{Core, opening_words, opening_numbers, opening_lists, IsOpening, IsAllowed, CoreHolds, OpeningHolds}
+use Rattle.at_core.specs.Rule.{Slot, Homes, weight, LockRule, SlotRule, IsLock, Parts, Base, words_of, heads_of, shape_under}
+use Rattle.at_core.specs.Runs.{Core, opening_words, opening_numbers, opening_lists, AreFirstSlots, IsOpening, IsAllowed, CoreHolds, OpeningHolds}
+use Rattle.at_model.specs.World as model
+use Rattle.at_model.proofs.Worlds.{opening_is_formed}
 use Rattle.at_core.proofs.Lists.{each_one}
 use Rattle.at_core.proofs.Counts.{at_most_one, weight_other}
 
@@ -98,12 +103,23 @@ no_place (suc p) = let no : nat_lt (suc p) 1 ≡ false = grind (arith, nat_tests
     and_false true = refl
     and_false false = refl
 
+-- one row more
+pub slots_more : (opened : World) (limits : Limits) (n : ℕ) (slots : List Slot) (body : Dictionary) → body.map ≡ [] → AreFirstSlots opened limits n slots → AreFirstSlots opened limits (n + 1) (slots ++ Some (stored.Body body) ∷ [])
+slots_more opened limits n slots body none s = record {
+  types = s.types;
+  bodies = s.bodies ++ Some (stored.Body body) ∷ [];
+  are = ap (λ xs. xs ++ Some (stored.Body body) ∷ []) s.are;
+  agrees = s.agrees;
+  long = let l = length-append s.bodies (Some (stored.Body body) ∷ []) in let e = s.long in omega arith;
+  empty = λ o x e. ⊎_elim (λ (old : get_elem? s.bodies o ≡ some x). s.empty o x old) (λ (new : Some (stored.Body body) ≡ x). (body, sym new, none)) (at_snoc s.bodies (Some (stored.Body body)) x o e);
+}
+
 -- the opening state
 pub first_core : (opened : World) (limits : Limits) (a : Core) (o : IsOpening opened limits a) → a ≡ record {
-    table = opening opening_words (Some o.slots_are.types ∷ o.slots_are.bodies) (first_view limits);
-    hands = λ id slot. None;
-    ghost = record { history = []; lists = opening_lists limits };
-  }
+  table = opening opening_words (Some o.slots_are.types ∷ o.slots_are.bodies) (first_view limits);
+  hands = λ id slot. None;
+  ghost = record { history = []; lists = opening_lists limits };
+}
 first_core opened limits a o = o.after ∙ ap (λ (slots : List Slot). record {
   table = opening opening_words slots (first_view limits);
   hands = λ id slot. None;
@@ -184,3 +200,10 @@ module _ (opened : World) (limits : Limits) (a : Core) (allowed : IsAllowed limi
 
 pub opening_holds : OpeningHolds
 opening_holds = opens
+
+-- The rule holds of a table that is opened so
+pub opened_base : (limits : Limits) (words : List ℕ) (slots : List Slot) → IsAllowed limits → words ≡ opening_words → AreFirstSlots model.opening limits objects slots → Base model.opening limits (opening words slots (first_view limits))
+opened_base limits words slots allowed words_are slots_are =
+    let a : Core = record { table = opening opening_words slots (first_view limits); hands = λ id slot. None; ghost = record { history = []; lists = opening_lists limits } } in
+    let holds = opens model.opening limits a allowed (record { whole = opening_is_formed; objectless = refl; slots = slots; slots_are = slots_are; after = refl }) in
+    subst (λ (ws : List ℕ). Base model.opening limits (opening ws slots (first_view limits))) (sym words_are) (record { ghost = a.ghost; holds = holds.table_holds })

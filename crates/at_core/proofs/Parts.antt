@@ -46,6 +46,7 @@ lock_taken views id v w word rule at is held = record {
   where
     nobody : (j : ℕ) (u : HolderRead) → get_elem? views j ≡ some u → u.held ≡ true → ⊥
     nobody j u e h = let z = rule.named j u e h in absurd (omega arith)
+
     mine : (i : ℕ) (u : HolderRead) → get_elem? (set views id w) i ≡ some u → u.held ≡ true → i ≡ id
     mine i u e h = each_other (λ j x. x.held ≡ true → j ≡ id) views id w (λ j x _ e' h'. absurd (nobody j x e' h')) (λ _. refl) i u e h
 

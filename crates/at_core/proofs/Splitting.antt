@@ -37,6 +37,7 @@ module _ (next : ℕ) (views : List KinRead) (rule : KinRule next views) where
           by_live : (t : Bool) → weight (v.birth == b) ≤ 0 → weight (t && (v.birth == b)) ≤ 0
           by_live true h = h
           by_live false h = omega arith
+
       zeros : (vs : List KinRead) → sum_by (λ v. 0) vs ≡ 0
       zeros [] = refl
       zeros (v ∷ vs) = zeros vs
@@ -47,6 +48,7 @@ module _ (next : ℕ) (views : List KinRead) (rule : KinRule next views) where
       none : (i : ℕ) (v : KinRead) → get_elem? views i ≡ some v → (n : ℕ) → times b v.kept ≡ n → n ≤ 0
       none i v e zero is = omega arith
       none i v e (suc n) is = let lt = rule.kept_below i v e b (omega arith) in absurd (omega arith)
+
       zeros : (vs : List KinRead) → sum_by (λ v. 0) vs ≡ 0
       zeros [] = refl
       zeros (v ∷ vs) = zeros vs
@@ -80,9 +82,9 @@ kin_parted next views id v m c rule at m_is c_is = subst (λ (x : KinRead × Kin
       (λ (ne : next ≢ b). let z = weight_other next b ne in omega arith);
   later = each_snoc (λ i u. (b : ℕ) → 0 < times b u.children → u.birth < b) (set views id (parent_of v next)) (newborn next)
       (each_set (λ i u. (b : ℕ) → 0 < times b u.children → u.birth < b) views id (parent_of v next) rule.later
-          (λ b h. let t = times_cons b next v.children in dite (ℕ_discrete next b)
-              (λ (is : next ≡ b). let lt = rule.below id v at in omega arith)
-              (λ (ne : next ≢ b). let z = weight_other next b ne in rule.later id v at b (omega arith))))
+      (λ b h. let t = times_cons b next v.children in dite (ℕ_discrete next b)
+      (λ (is : next ≡ b). let lt = rule.below id v at in omega arith)
+      (λ (ne : next ≢ b). let z = weight_other next b ne in rule.later id v at b (omega arith))))
       (λ j b h. absurd (omega arith));
   below = each_snoc (λ i u. u.birth < suc next) (set views id (parent_of v next)) (newborn next)
       (each_set (λ i u. u.birth < suc next) views id (parent_of v next) (λ j u e. let lt = rule.below j u e in omega arith) (let lt = rule.below id v at in omega arith))
@@ -167,9 +169,9 @@ module _ (opened : World) (limits : Limits) (words : Words) (homes : Homes) (vie
   types_after : TypesRule (lists_parted g.lists) (types_words words) (map types_read views_parted)
   types_after = subst (λ xs. TypesRule (lists_parted g.lists) (types_words words) xs) (sym (map_snoc types_read (set views id m) c ∙ ap (λ xs. xs ++ types_read c ∷ []) (map_set types_read views id m)))
       (each_snoc TypesAfter (set (map types_read views) id (types_read m)) (types_read c)
-          (each_other TypesAfter (map types_read views) id (types_read m) others
-              (λ _. record { lists_are = ap lists_parted lists_are; words_are = (p.types id (types_read v) (at_map types_read views id v at) may.alone.types).words_are }))
-          (λ j on. absurd (true≢false (sym on))))
+      (each_other TypesAfter (map types_read views) id (types_read m) others
+      (λ _. record { lists_are = ap lists_parted lists_are; words_are = (p.types id (types_read v) (at_map types_read views id v at) may.alone.types).words_are }))
+      (λ j on. absurd (true≢false (sym on))))
     where
       others : (j : ℕ) (u : TypesRead) → j ≢ id → get_elem? (map types_read views) j ≡ some u → u.held ≡ true → TypesCopied (lists_parted g.lists) (types_words words) u
       others j u ne e on =
@@ -182,8 +184,8 @@ module _ (opened : World) (limits : Limits) (words : Words) (homes : Homes) (vie
     room = grown fresh_read (RoomRule limits.place_max (words place)) refl (let s = sum_by_push (λ (b : Bool). weight b) (map fresh_read views) false in let r = p.room in omega arith);
     kin = subst (KinRule (suc g.lists.next_birth)) (sym (map_snoc kin_read (set views id m) c ∙ ap (λ xs. xs ++ kin_read c ∷ []) (map_set kin_read views id m)))
         (kin_parted g.lists.next_birth (map kin_read views) id (kin_read v) (kin_read m) (kin_read c) p.kin (at_map kin_read views id v at)
-            (ap (λ (ls : TypeLists). record (kin_read v) { children = ls.next_birth ∷ v.who.children }) lists_are)
-            (ap (λ (ls : TypeLists). record { live = true; birth = ls.next_birth; children = []; kept = [] }) lists_are));
+        (ap (λ (ls : TypeLists). record (kin_read v) { children = ls.next_birth ∷ v.who.children }) lists_are)
+        (ap (λ (ls : TypeLists). record { live = true; birth = ls.next_birth; children = []; kept = [] }) lists_are));
     locks = λ k. grown (holder_read k) (LockRule (words (lock_word k))) (λ i. record { number = v.who.number; held = (hold_parted k i).held })
         (lock_grown (words (lock_word k)) (map (holder_read k) views) (holder_read k c) (p.locks k) (ap (λ h. h.held) (hold_child k)));
     numbers = grown number_read (NumberRule (lists_parted g.lists).numbers) refl
@@ -192,7 +194,7 @@ module _ (opened : World) (limits : Limits) (words : Words) (homes : Homes) (vie
     rows_are = p.rows_are;
     kept = λ k. each_grown (kept_read k) (λ i u. u.hold.held ≡ true → KeptBy opened k g.history u) (p.kept k)
         (let same : kept_read k m ≡ kept_read k v = λ i. record { hold = hold_parted k i; seen = v.history.seen; own = v.history.own } in
-            subst (λ u. u.hold.held ≡ true → KeptBy opened k g.history u) (sym same) (p.kept k id (kept_read k v) (at_map (kept_read k) views id v at)))
+        subst (λ u. u.hold.held ≡ true → KeptBy opened k g.history u) (sym same) (p.kept k id (kept_read k v) (at_map (kept_read k) views id v at)))
         (λ j on. absurd (true≢false (sym on ∙ ap (λ h. h.held) (hold_child k))));
     types = types_after;
     rows = λ o. each_grown (row_read o) (λ i u. u.held ≡ true → u.words ≡ row_words words o) (p.rows o) (p.rows o id (row_read o v) (at_map (row_read o) views id v at)) (λ j on. absurd (true≢false (sym on)));
@@ -209,8 +211,10 @@ module _ (opened : World) (limits : Limits) (words : Words) (homes : Homes) (vie
         owned = λ q. let s = sum_by_push (λ (u : PastRead). times q u.own) (map past_read views) new in let z : times q new.own ≡ 0 = ap (times q) none_own in let o = h.owned q in omega arith;
         reached = each_snoc (λ i u. (q : ℕ) → 0 < times q u.own → q ≤ length u.seen) (map past_read views) new h.reached (λ j q has. let z : times q new.own ≡ 0 = ap (times q) none_own in absurd (omega arith));
       }
+
       free : next_number g.lists.numbers ≡ Some number
       free = ap (λ (ls : TypeLists). next_number ls.numbers) (sym lists_are) ∙ may.free
+
       numbers_grown : NumberRule (lists_parted g.lists).numbers (map number_read views ++ record { live = true; number = unwrap_or (next_number g.lists.numbers) 0 } ∷ [])
       numbers_grown = subst (λ n. NumberRule (set g.lists.numbers (unwrap_or n 0) false) (map number_read views ++ record { live = true; number = unwrap_or n 0 } ∷ [])) (sym free)
           (number_parted g.lists.numbers (map number_read views) number p.numbers (next_is_free g.lists.numbers number free))

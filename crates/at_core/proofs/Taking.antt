@@ -41,7 +41,6 @@ excludes_all opened (locks.Row o) own history = λ point operation to late mine.
     let n = prefix_length (point ++ operation ∷ []) history to in let m = length-append point (operation ∷ []) in absurd (omega arith)
 
 module _ (opened : World) (limits : Limits) (words : Words) (homes : Homes) (views : List View) (g : Ghost) (p : Parts opened limits words homes views g) (id : ℕ) (v : View) (at : get_elem? views id ≡ some v) (live : v.who.live ≡ true) where
-
   abbrev pub miss : lock.Lock → ℕ → Mark
   miss l n = mark kinds.LockTake (lock_word l) (Some n) (Some n)
 
@@ -72,13 +71,13 @@ module _ (opened : World) (limits : Limits) (words : Words) (homes : Homes) (vie
     locks_after k = ⊎_elim
         (λ (e : k ≡ l). subst (λ (j : lock.Lock). LockRule (after (lock_word j)) (map (holder_read j) views_after)) (sym e) here)
         (λ (ne : k ≢ l). subst (λ (n : ℕ). LockRule n (map (holder_read k) views_after)) (sym (other_word words k l (suc v.who.number) ne))
-            (left_alone (holder_read k) (LockRule (words (lock_word k))) views id v w at (holder_same k ne) (p.locks k)))
+        (left_alone (holder_read k) (LockRule (words (lock_word k))) views id v w at (holder_same k ne) (p.locks k)))
         (lock_cases k l)
       where
         here : LockRule (after (lock_word l)) (map (holder_read l) views_after)
         here = changed (holder_read l) (LockRule (after (lock_word l))) views id w
             (lock_taken (map (holder_read l) views) id (holder_read l v) (holder_read l w) (after (lock_word l)) (subst (λ (n : ℕ). LockRule n (map (holder_read l) views)) free (p.locks l))
-                (at_map (holder_read l) views id v at) (updated_here words (lock_word l) (suc v.who.number)) (ap (λ h. h.held) (hold_taken l v now)))
+            (at_map (holder_read l) views id v at) (updated_here words (lock_word l) (suc v.who.number)) (ap (λ h. h.held) (hold_taken l v now)))
 
     abbrev pub homes_after : Homes
     homes_after = set homes (slot_of l) none
@@ -86,44 +85,44 @@ module _ (opened : World) (limits : Limits) (words : Words) (homes : Homes) (vie
     slots_after : (k : lock.Lock) → IsLock k → SlotRule limits (replay opened g.history) g.lists (shape_under (heads_of after) k) k (after (lock_word k)) (get_elem? homes_after (slot_of k))
     slots_after k k_is = ⊎_elim
         (λ (e : k ≡ l). subst (λ (j : lock.Lock). SlotRule limits (replay opened g.history) g.lists (shape_under (heads_of after) j) j (after (lock_word j)) (get_elem? homes_after (slot_of j))) (sym e)
-            (record {
-              at_home = λ z. let e : suc v.who.number ≡ 0 = sym (updated_here words (lock_word l) (suc v.who.number)) ∙ z in absurd (omega arith);
-              out = λ _. set_here homes (slot_of l) none room;
-            }))
+        (record {
+          at_home = λ z. let e : suc v.who.number ≡ 0 = sym (updated_here words (lock_word l) (suc v.who.number)) ∙ z in absurd (omega arith);
+          out = λ _. set_here homes (slot_of l) none room;
+        }))
         (λ (ne : k ≢ l).
-            let word = other_word words k l (suc v.who.number) ne in
-            let home = set_else homes (slot_of l) (slot_of k) none (slot_apart k l ne) in
-            let heads = same_heads words l (suc v.who.number) in
-            let Q : (ℕ → ℕ) × ℕ × _ → Type 0 = λ x. SlotRule limits (replay opened g.history) g.lists (shape_under x.0 k) k x.1 x.2 in
-            subst Q (λ i. (sym heads i, sym word i, sym home i)) (p.slots k k_is))
+        let word = other_word words k l (suc v.who.number) ne in
+        let home = set_else homes (slot_of l) (slot_of k) none (slot_apart k l ne) in
+        let heads = same_heads words l (suc v.who.number) in
+        let Q : (ℕ → ℕ) × ℕ × _ → Type 0 = λ x. SlotRule limits (replay opened g.history) g.lists (shape_under x.0 k) k x.1 x.2 in
+        subst Q (λ i. (sym heads i, sym word i, sym home i)) (p.slots k k_is))
         (lock_cases k l)
 
     kept_same : (k : lock.Lock) → k ≢ l → KeptRule opened k g.history (map (kept_read k) views_after)
     kept_same k ne = changed (kept_read k) (KeptRule opened k g.history) views id w
         (each_set (λ i u. u.hold.held ≡ true → KeptBy opened k g.history u) (map (kept_read k) views) id (kept_read k w) (p.kept k)
-            (λ held.
-                let same = hold_beside k l v now ne in
-                let old = p.kept k id (kept_read k v) (at_map (kept_read k) views id v at) (ap (λ h. h.held) (sym same) ∙ held) in
-                let seen = seen_begins p id v at in
-                let Q : _ → Type 0 = λ h. KeptBy opened k g.history (record { hold = h; seen = g.history; own = v.history.own }) in
-                subst Q (sym same) (record {
-                  begun = prefix_trans (hold_of k v).since v.history.seen g.history old.begun seen;
-                  came = old.came;
-                  protects = old.protects;
-                  excludes = old.excludes;
-                })))
+        (λ held.
+        let same = hold_beside k l v now ne in
+        let old = p.kept k id (kept_read k v) (at_map (kept_read k) views id v at) (ap (λ h. h.held) (sym same) ∙ held) in
+        let seen = seen_begins p id v at in
+        let Q : _ → Type 0 = λ h. KeptBy opened k g.history (record { hold = h; seen = g.history; own = v.history.own }) in
+        subst Q (sym same) (record {
+          begun = prefix_trans (hold_of k v).since v.history.seen g.history old.begun seen;
+          came = old.came;
+          protects = old.protects;
+          excludes = old.excludes;
+        })))
 
     kept_here : KeptRule opened l g.history (map (kept_read l) views_after)
     kept_here = changed (kept_read l) (KeptRule opened l g.history) views id w
         (each_set (λ i u. u.hold.held ≡ true → KeptBy opened l g.history u) (map (kept_read l) views) id (kept_read l w) (p.kept l)
-            (λ _.
-                let Q : _ → Type 0 = λ h. KeptBy opened l g.history (record { hold = h; seen = g.history; own = v.history.own }) in
-                subst Q (sym (hold_taken l v now)) (record {
-                  begun = prefix_self g.history;
-                  came = omega arith;
-                  protects = protects_all opened l g.history;
-                  excludes = excludes_all opened l v.history.own g.history;
-                })))
+        (λ _.
+        let Q : _ → Type 0 = λ h. KeptBy opened l g.history (record { hold = h; seen = g.history; own = v.history.own }) in
+        subst Q (sym (hold_taken l v now)) (record {
+          begun = prefix_self g.history;
+          came = omega arith;
+          protects = protects_all opened l g.history;
+          excludes = excludes_all opened l v.history.own g.history;
+        })))
 
     kept_after : (k : lock.Lock) → KeptRule opened k g.history (map (kept_read k) views_after)
     kept_after k = ⊎_elim
@@ -134,8 +133,8 @@ module _ (opened : World) (limits : Limits) (words : Words) (homes : Homes) (vie
     types_after : (k : lock.Lock) → l ≡ k → TypesRule g.lists (types_words after) (map types_read views_after)
     types_after locks.Types e = subst (λ x. TypesRule g.lists x (map types_read views_after)) (sym (same_types words l (suc v.who.number)))
         (changed types_read (TypesRule g.lists (types_words words)) views id w
-            (each_set (λ i u. u.held ≡ true → TypesCopied g.lists (types_words words) u) (map types_read views) id (types_read w) p.types
-                (λ _. subst (λ (j : lock.Lock). TypesCopied g.lists (types_words words) (types_read (taken j v now))) (sym e) (record { lists_are = refl; words_are = refl }))))
+        (each_set (λ i u. u.held ≡ true → TypesCopied g.lists (types_words words) u) (map types_read views) id (types_read w) p.types
+        (λ _. subst (λ (j : lock.Lock). TypesCopied g.lists (types_words words) (types_read (taken j v now))) (sym e) (record { lists_are = refl; words_are = refl }))))
     types_after (locks.Row o) e = subst (λ x. TypesRule g.lists x (map types_read views_after)) (sym (same_types words l (suc v.who.number)))
         (left_alone types_read (TypesRule g.lists (types_words words)) views id v w at (ap (λ (j : lock.Lock). types_read (taken j v now)) e) p.types)
 
@@ -145,11 +144,11 @@ module _ (opened : World) (limits : Limits) (words : Words) (homes : Homes) (vie
     rows_after : (o : ℕ) → RowRule (row_words after o) (map (row_read o) views_after)
     rows_after o = subst (λ x. RowRule x (map (row_read o) views_after)) (sym (same_row words l (suc v.who.number) o))
         (⊎_elim
-            (λ (e : locks.Row o ≡ l). changed (row_read o) (RowRule (row_words words o)) views id w
-                (each_set (λ i u. u.held ≡ true → u.words ≡ row_words words o) (map (row_read o) views) id (row_read o w) (p.rows o)
-                    (λ _. subst (λ (j : lock.Lock). copy_at o (taken j v now).rows ≡ row_words words o) e (copy_taken o v now))))
-            (λ (ne : locks.Row o ≢ l). left_alone (row_read o) (RowRule (row_words words o)) views id v w at (row_same o ne) (p.rows o))
-            (lock_cases (locks.Row o) l))
+        (λ (e : locks.Row o ≡ l). changed (row_read o) (RowRule (row_words words o)) views id w
+        (each_set (λ i u. u.held ≡ true → u.words ≡ row_words words o) (map (row_read o) views) id (row_read o w) (p.rows o)
+        (λ _. subst (λ (j : lock.Lock). copy_at o (taken j v now).rows ≡ row_words words o) e (copy_taken o v now))))
+        (λ (ne : locks.Row o ≢ l). left_alone (row_read o) (RowRule (row_words words o)) views id v w at (row_same o ne) (p.rows o))
+        (lock_cases (locks.Row o) l))
 
     pub take_keeps : Parts opened limits after homes_after views_after g
     take_keeps =
@@ -158,8 +157,8 @@ module _ (opened : World) (limits : Limits) (words : Words) (homes : Homes) (vie
         record {
           history = subst (λ (n : ℕ). HistoryRule opened n g.history (map past_read views_after)) (sym count)
               (changed past_read (HistoryRule opened (words place) g.history) views id w
-                  (history_seen opened (words place) g.history (map past_read views) id (past_read v) (past_read w) p.history (at_map past_read views id v at) refl (prefix_self g.history)
-                      (prefix_length v.history.seen g.history seen)));
+              (history_seen opened (words place) g.history (map past_read views) id (past_read v) (past_read w) p.history (at_map past_read views id v at) refl (prefix_self g.history)
+              (prefix_length v.history.seen g.history seen)));
           room = subst (λ (n : ℕ). RoomRule limits.place_max n (map fresh_read views_after)) (sym count) (left_alone fresh_read (RoomRule limits.place_max (words place)) views id v w at refl p.room);
           kin = left_alone kin_read (KinRule g.lists.next_birth) views id v w at refl p.kin;
           locks = locks_after;

@@ -31,6 +31,7 @@ stored words wide a n here = λ i b. at b (is_same b a) refl i
     other b e true is =
         let ne : number_of b ≢ number_of a = λ z. true≢false (sym (ap (λ (w : Word). is_same w a) (apart b a is here z) ∙ self a) ∙ e) in
         said (set words (number_of a) n) b is ∙ (get_or-set_other words (number_of a) (number_of b) n 0 ne ∙ sym (said words b is))
+
     at : (b : Word) → (t : Bool) → is_same b a ≡ t → words_of (set words (number_of a) n) b ≡ updated (words_of words) a n b
     at b false e = other b e (is_there b) refl ∙ sym (updated_else (words_of words) a b n e)
     at b true e =

@@ -1,5 +1,5 @@
 -- The world in which a table begins: chosen here, by its limits, and which limits there may be.
-use Rattle.std.specs.Prelude.{ℕ, ◌≡◌, ◌<◌, ◌≤◌, ◌%◌}
+use Rattle.std.specs.Prelude.{◌≡◌, ◌<◌, ◌≤◌, ◌%◌}
 use Rattle.at_value.specs.ProgramLimits.{program_limits}
 use Rattle.at_value.specs.declared.limits.Limits.{Limits}
 use Rattle.at_model.specs.World.{World, opening}

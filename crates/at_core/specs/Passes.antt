@@ -2,7 +2,6 @@
 use Rattle.std.specs.Prelude.{◌≡◌, ◌≢◌, ℕ, List, Option}
 use Rattle.at_view.specs.declared.view.View.{View}
 use Rattle.at_core.specs.declared.lock.Lock as lock
-use Rattle.at_core.specs.declared.stored.Stored.{Stored}
 use Rattle.at_core.specs.declared.world.Pass.{Pass}
 use Rattle.at_core.specs.declared.world.World.{World}
 use Rattle.at_core.specs.Locks.{slot_of}

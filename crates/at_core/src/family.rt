@@ -64,5 +64,8 @@ pub fn take_in(world: &World, pass: &mut Pass, other: Pass)
         number: _,
         hand: _,
     } = other;
-    world.table.shared.join_seat::<Branches>(&mut pass.seat, seat);
+    world
+        .table
+        .shared
+        .join_seat::<Branches>(&mut pass.seat, seat);
 }

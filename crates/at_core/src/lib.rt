@@ -3,9 +3,10 @@
 #![tactic(auto)]
 
 pub mod family;
+mod hand;
 pub mod laws;
 pub mod lock;
-mod locking;
+pub mod locking;
 mod open_world;
 pub mod stored;
 #[cfg(test)]
