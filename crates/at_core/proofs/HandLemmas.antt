@@ -9,14 +9,18 @@ use mathlib.Core.Logic.{dite}
 use native.Mathlib.Decide.{ℕ_discrete}
 use Rattle.atomic_table.specs.Table.{Me, turned}
 use Rattle.at_value.specs.Widths.{objects}
+use Rattle.at_model.specs.World.{World}
 use Rattle.at_types.specs.Tags.{times}
 use Rattle.at_view.specs.declared.mark.Mark.{Mark}
 use Rattle.at_view.specs.declared.view.View.{View}
 use Rattle.at_core.specs.declared.lock.Lock as lock
+use Rattle.at_core.specs.declared.lock.Lock.TheVariants as locks
+use Rattle.at_core.specs.declared.stored.Stored.{Stored}
 use Rattle.at_core.specs.Locks.{slot_of, holds}
 use Rattle.at_core.specs.Reads.{slot_number, in_hand}
 use Rattle.at_core.specs.Rule.{Slot, IsLock, weight}
-use Rattle.at_core.specs.Steps.{Moment, marked, taken, given}
+use Rattle.at_core.specs.Plays.{Took}
+use Rattle.at_core.specs.Steps.{Moment, marked, taken, given, ValueAgrees, MayGive}
 use Rattle.at_core.proofs.Counts.{times_cons, times_append, weight_same, weight_other, at_most_one}
 use Rattle.at_core.proofs.LockLemmas.{lock_cases, slot_apart, hold_marked, hold_taken, hold_beside, hold_given, hold_kept}
 
@@ -269,3 +273,15 @@ right_given l v x others once right k is = ⊎_elim
     (ap is_some (front_alone (slot_of l) x others once) ∙ sym (ap (λ h. h.held) (hold_given l v))))
     (λ (ne : k ≢ l). ap is_some (sym (in_others (slot_of k) (slot_of l) x others (slot_apart k l ne))) ∙ (right k is ∙ sym (ap (λ h. h.held) (hold_kept k l v ne))))
     (lock_cases k l)
+
+-- A lock that was just taken may be given back as it is
+pub given_at_once : (opened : World) (l : lock.Lock) (v : View) (at : Moment) (x : Stored) → Took opened l v at x → MayGive opened l (taken l v at) (taken l v at).types.lists x
+given_at_once opened l v at x took = record {
+  held = ap (λ h. h.held) (hold_taken l v at);
+  returns = refl;
+  agrees = agrees_so l took.value;
+}
+  where
+    agrees_so : (k : lock.Lock) → ValueAgrees opened k (taken k v at) at.lists x → ValueAgrees opened k (taken k v at) (taken k v at).types.lists x
+    agrees_so locks.Types a = a
+    agrees_so (locks.Row o) a = a
