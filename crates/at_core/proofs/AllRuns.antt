@@ -1,45 +1,23 @@
 -- The rule holds after each step of each run.
-use Rattle.std.proofs.Common.{◌≡◌, ◌≢◌, ℕ, false, List, [], ◌∷◌, length, set, refl, sym, ap, ◌∙◌, subst, ⊎_elim, length-set}
+use Rattle.std.proofs.Common.{◌≡◌, ◌≢◌, ℕ, List, [], ◌∷◌, length, set, refl, sym, ap, ◌∙◌, subst, ⊎_elim, length-set}
 use Rattle.std.specs.Prelude.{Some, None, is_some}
 use mathlib.Core.Option.{some}
 use lib.ListN.{get_elem?}
 use Rattle.at_value.specs.declared.limits.Limits.{Limits}
 use Rattle.at_model.specs.World.{World}
-use Rattle.at_view.specs.declared.view.View.{View}
 use Rattle.at_view.specs.Views.{blank}
 use Rattle.at_core.specs.declared.lock.Lock as lock
-use Rattle.at_core.specs.declared.lock.Lock.TheVariants as locks
 use Rattle.at_core.specs.Locks.{slot_of, holds}
 use Rattle.at_core.specs.Rule.{Slot}
 use Rattle.at_core.specs.Steps.{taken, missed, given, parted, child, merged}
 use Rattle.at_core.specs.Runs.{Core, Event, lock_take, lock_miss, lock_give, slot_out, slot_in, split, join, moment_of, without_hand, Takes, Misses, Gives, Exchanges, Splits, Joins, Goes, CoreHolds, EveryRunHolds}
 use Rattle.at_core.proofs.Lists.{each_set}
-use Rattle.at_core.proofs.LockLemmas.{hold_taken, hold_beside, hold_given, hold_kept}
+use Rattle.at_core.proofs.LockLemmas.{hold_taken, hold_beside, hold_given, hold_kept, holds_parted, holds_child, holds_merged, holds_blank, holds_missed}
 use Rattle.at_core.proofs.Hands.{hands_changed, hands_exchanged, at_end, without_here, without_else}
 use Rattle.at_core.proofs.Moves.{take_moves, miss_moves, give_moves, split_moves, join_moves}
 
 same_length : {A : Type 0} (xs : List A) (i : ℕ) (x : A) → length (set xs i x) ≡ length xs
 same_length xs i x = length-set xs i x
-
-hold_parted : (k : lock.Lock) (v : View) → holds k (parted v) ≡ holds k v
-hold_parted locks.Types v = refl
-hold_parted (locks.Row o) v = refl
-
-hold_child : (k : lock.Lock) (v : View) → holds k (child v) ≡ false
-hold_child locks.Types v = refl
-hold_child (locks.Row o) v = refl
-
-hold_merged : (k : lock.Lock) (v w : View) → holds k (merged v w) ≡ holds k v
-hold_merged locks.Types v w = refl
-hold_merged (locks.Row o) v w = refl
-
-hold_blank : (k : lock.Lock) → holds k blank ≡ false
-hold_blank locks.Types = refl
-hold_blank (locks.Row o) = refl
-
-hold_missed : (k l : lock.Lock) (v : View) (n : ℕ) → holds k (missed l v n) ≡ holds k v
-hold_missed locks.Types l v n = refl
-hold_missed (locks.Row o) l v n = refl
 
 module _ (opened : World) (limits : Limits) where
   landed : (m b : Core) → b ≡ m → CoreHolds opened limits m → CoreHolds opened limits b
@@ -57,7 +35,7 @@ module _ (opened : World) (limits : Limits) where
   misses_keep id l a b h t = landed _ b t.after (record {
     table_holds = miss_moves opened limits a.table a.ghost h.table_holds id t.view t.makes.there t.makes.live [] l _ t.is_lock refl;
     hands_are = λ j u k e is. each_set (λ i x. is_some (a.hands i (slot_of k)) ≡ holds k x) a.table.views id (missed l t.view _)
-        (λ i x e'. h.hands_are i x k e' is) (h.hands_are id t.view k t.makes.there is ∙ sym (hold_missed k l t.view _)) j u e;
+        (λ i x e'. h.hands_are i x k e' is) (h.hands_are id t.view k t.makes.there is ∙ sym (holds_missed k l t.view _)) j u e;
   })
 
   gives_keep : (id : ℕ) (l : lock.Lock) (a b : Core) → CoreHolds opened limits a → Gives opened id l a b → CoreHolds opened limits b
@@ -82,10 +60,10 @@ module _ (opened : World) (limits : Limits) where
         let ne : j ≢ length a.table.views = λ z. x.0 (z ∙ sym (same_length a.table.views id (parted t.view))) in
         ap is_some (without_else a (length a.table.views) j (slot_of k) ne)
         ∙ each_set (λ i y. is_some (a.hands i (slot_of k)) ≡ holds k y) a.table.views id (parted t.view) (λ i y e'. h.hands_are i y k e' is)
-        (h.hands_are id t.view k t.makes.there is ∙ sym (hold_parted k t.view)) j u x.1)
+        (h.hands_are id t.view k t.makes.there is ∙ sym (holds_parted k t.view)) j u x.1)
         (λ (x : (j ≡ length (set a.table.views id (parted t.view))) × (child t.view ≡ u)).
         let e' : j ≡ length a.table.views = x.0 ∙ same_length a.table.views id (parted t.view) in
-        ap (λ (n : ℕ). is_some (without_hand a (length a.table.views) n (slot_of k))) e' ∙ (ap is_some (without_here a (length a.table.views) (slot_of k)) ∙ (sym (hold_child k t.view) ∙ ap (holds k) x.1)))
+        ap (λ (n : ℕ). is_some (without_hand a (length a.table.views) n (slot_of k))) e' ∙ (ap is_some (without_here a (length a.table.views) (slot_of k)) ∙ (sym (holds_child k t.view) ∙ ap (holds k) x.1)))
         (at_end (set a.table.views id (parted t.view)) (child t.view) j u e);
   })
 
@@ -94,8 +72,8 @@ module _ (opened : World) (limits : Limits) where
     table_holds = join_moves opened limits a.table a.ghost h.table_holds id t.view t.makes.there t.makes.live [] other t.joined t.apart t.ends.there t.ends.live t.asked;
     hands_are = λ j u k e is. each_set (λ i y. is_some (a.hands i (slot_of k)) ≡ holds k y) (set a.table.views id (merged t.view t.joined)) other blank
         (each_set (λ i y. is_some (a.hands i (slot_of k)) ≡ holds k y) a.table.views id (merged t.view t.joined) (λ i y e'. h.hands_are i y k e' is)
-        (h.hands_are id t.view k t.makes.there is ∙ sym (hold_merged k t.view t.joined)))
-        (h.hands_are other t.joined k t.ends.there is ∙ (t.asked.lockless k ∙ sym (hold_blank k))) j u e;
+        (h.hands_are id t.view k t.makes.there is ∙ sym (holds_merged k t.view t.joined)))
+        (h.hands_are other t.joined k t.ends.there is ∙ (t.asked.lockless k ∙ sym (holds_blank k))) j u e;
   })
 
   goes_keeps : (event : Event) (a b : Core) → CoreHolds opened limits a → Goes opened event a b → CoreHolds opened limits b

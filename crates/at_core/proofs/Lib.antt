@@ -6,9 +6,14 @@ pub mod Parts
 pub mod Taking
 pub mod Giving
 pub mod Counts
+pub mod HandLemmas
 pub mod Splitting
 pub mod Joining
 pub mod Opening
 pub mod Hands
 pub mod Moves
 pub mod AllRuns
+pub mod LivePasses
+pub mod Allowed
+pub mod SomeRun
+pub mod HandOf

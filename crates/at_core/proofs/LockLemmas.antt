@@ -7,12 +7,13 @@ use Rattle.at_view.specs.declared.mark.Mark.{Mark}
 use Rattle.at_view.specs.declared.view.RowHold.{RowHold}
 use Rattle.at_view.specs.declared.view.RowCopy.{RowCopy}
 use Rattle.at_view.specs.declared.view.View.{View}
+use Rattle.at_view.specs.Views.{blank}
 use Rattle.at_view.specs.Words.{Words, updated, is_same, place}
 use Rattle.at_core.specs.declared.lock.Lock as lock
 use Rattle.at_core.specs.declared.lock.Lock.TheVariants as locks
-use Rattle.at_core.specs.Locks.{lock_word, slot_of, hold_at, hold_of, copy_at}
+use Rattle.at_core.specs.Locks.{lock_word, slot_of, hold_at, hold_of, holds, copy_at}
 use Rattle.at_core.specs.Rule.{heads_of, types_words, row_words}
-use Rattle.at_core.specs.Steps.{Moment, marked, hold_from, taken, let_go, given}
+use Rattle.at_core.specs.Steps.{Moment, marked, hold_from, taken, missed, let_go, given, parted, child, merged}
 use Rattle.at_core.proofs.WordLemmas.{updated_else}
 
 pub slot_one : (l k : lock.Lock) → slot_of l ≡ slot_of k → l ≡ k
@@ -107,3 +108,25 @@ hold_kept locks.Types locks.Types v ne = absurd (ne refl)
 hold_kept locks.Types (locks.Row o) v ne = refl
 hold_kept (locks.Row o) locks.Types v ne = refl
 hold_kept (locks.Row o) (locks.Row p) v ne = hold_else o (record { object = p; hold = let_go (hold_at p v.holds) }) v.holds (row_apart o p ne)
+
+-- What other steps leave of who holds what
+
+pub holds_parted : (k : lock.Lock) (v : View) → holds k (parted v) ≡ holds k v
+holds_parted locks.Types v = refl
+holds_parted (locks.Row o) v = refl
+
+pub holds_child : (k : lock.Lock) (v : View) → holds k (child v) ≡ false
+holds_child locks.Types v = refl
+holds_child (locks.Row o) v = refl
+
+pub holds_merged : (k : lock.Lock) (v w : View) → holds k (merged v w) ≡ holds k v
+holds_merged locks.Types v w = refl
+holds_merged (locks.Row o) v w = refl
+
+pub holds_blank : (k : lock.Lock) → holds k blank ≡ false
+holds_blank locks.Types = refl
+holds_blank (locks.Row o) = refl
+
+pub holds_missed : (k l : lock.Lock) (v : View) (n : ℕ) → holds k (missed l v n) ≡ holds k v
+holds_missed locks.Types l v n = refl
+holds_missed (locks.Row o) l v n = refl

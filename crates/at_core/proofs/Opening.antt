@@ -1,14 +1,17 @@
 -- The opening state.
-use Rattle.std.proofs.Common.{◌≡◌, ℕ, zero, suc, ◌+◌, ◌-◌, ◌<◌, ◌≤◌, ◌==◌, ◌&&◌, Bool, true, false, true≢false, List, [], ◌∷◌, length, map, get_or, replicate, refl, sym, ap, ◌∙◌, subst, arith}
-use Rattle.std.specs.Prelude.{Some, count_by, nat_lt, if◌then◌else◌}
+use Rattle.std.proofs.Common.{◌≡◌, ℕ, zero, suc, ◌+◌, ◌-◌, ◌<◌, ◌≤◌, ◌==◌, ◌&&◌, Bool, true, false, true≢false, List, [], ◌∷◌, ◌++◌, length, map, get_or, replicate, refl, sym, ap, ◌∙◌, subst, ⊎_elim, arith, length-append}
+use Rattle.std.specs.Prelude.{Some, None, count_by, nat_lt, if◌then◌else◌}
 use Rattle.std.proofs.lemmas.Bool.Decides.{nat_tests}
 use Rattle.std.proofs.lemmas.List.{length-replicate, length-map}
 use Rattle.std.proofs.lemmas.List.Sums.{sum_by-cons}
 use mathlib.Core.Option.{some}
 use lib.ListN.{get_elem?}
-use Rattle.atomic_table.proofs.Lists.{at_map}
+use Rattle.atomic_table.specs.Table.{opening}
+use Rattle.atomic_table.proofs.Lists.{at_map, at_snoc}
+use Rattle.at_value.specs.Widths.{objects}
 use Rattle.at_value.specs.declared.limits.Limits.{Limits}
 use Rattle.at_model.specs.World.{World}
+use Rattle.at_dict.specs.Dictionary.{Dictionary}
 use Rattle.at_view.specs.declared.view.View.{View}
 use Rattle.at_view.specs.Counts.{passes}
 use Rattle.at_view.specs.Views.{first_view}
@@ -19,13 +22,15 @@ use Rattle.at_core.specs.declared.stored.Stored.TheVariants as stored
 use Rattle.at_core.specs.Heads.{shape_of, HasDictionary}
 use Rattle.at_core.specs.Locks.{lock_word, slot_of, holds}
 use Rattle.at_core.specs.Reads.{past_read, kin_read, holder_read, kept_read, types_read, row_read, join_read, limit_read}
-use Rattle.at_core.specs.Rule.{Homes, weight, LockRule, SlotRule, IsLock, Parts, words_of, heads_of, shape_under}
-use Rattle.at_core.specs.Runs.{Core, opening_words, opening_numbers, opening_lists, IsOpening, IsAllowed, CoreHolds, OpeningHolds}
+use Rattle.at_core.specs.Rule.{Slot, Homes, weight, LockRule, SlotRule, IsLock, Parts, Base, words_of, heads_of, shape_under}
+use Rattle.at_core.specs.Runs.{Core, opening_words, opening_numbers, opening_lists, AreFirstSlots, IsOpening, IsAllowed, CoreHolds, OpeningHolds}
+use Rattle.at_model.specs.World as model
+use Rattle.at_model.proofs.Worlds.{opening_is_formed}
 use Rattle.at_core.proofs.Lists.{each_one}
 use Rattle.at_core.proofs.Counts.{at_most_one, weight_other}
 
 -- what the list has at an index below its length
-has_index : {A : Type 0} (xs : List A) (i : ℕ) → i < length xs → (x : A) × (get_elem? xs i ≡ some x)
+pub has_index : {A : Type 0} (xs : List A) (i : ℕ) → i < length xs → (x : A) × (get_elem? xs i ≡ some x)
 has_index [] i lt = absurd (omega arith)
 has_index (x ∷ xs) zero lt = (x, refl)
 has_index (x ∷ xs) (suc i) lt = has_index xs i (omega arith)
@@ -50,17 +55,17 @@ late_word a le = by_test (is_there a) refl
     by_test true e = ap (λ (t : Bool). if t then get_or opening_words (number_of a) 0 else 0) e ∙ late_zero (number_of a) le
     by_test false e = ap (λ (t : Bool). if t then get_or opening_words (number_of a) 0 else 0) e
 
-free_at_first : (l : lock.Lock) → words_of opening_words (lock_word l) ≡ 0
+pub free_at_first : (l : lock.Lock) → words_of opening_words (lock_word l) ≡ 0
 free_at_first locks.Types = refl
 free_at_first (locks.Row o) = late_word (row_lock o) (omega arith)
 
-head_at_first : (o : ℕ) → heads_of (words_of opening_words) o ≡ 0
+pub head_at_first : (o : ℕ) → heads_of (words_of opening_words) o ≡ 0
 head_at_first o = late_word (head o) (omega arith)
 
-no_dictionary : (w : ℕ) → w ≡ 0 → ¬ HasDictionary (shape_of w)
+pub no_dictionary : (w : ℕ) → w ≡ 0 → ¬ HasDictionary (shape_of w)
 no_dictionary w e = λ h. let z : (shape_of 0).layout ≡ 2 = ap (λ (n : ℕ). (shape_of n).layout) (sym e) ∙ h in absurd (omega arith)
 
-long_enough : length opening_words ≡ table_words
+pub long_enough : length opening_words ≡ table_words
 long_enough = let n = length-replicate {A = ℕ} (table_words - 4) 0 in omega arith
 
 -- Numbers
@@ -98,6 +103,29 @@ no_place (suc p) = let no : nat_lt (suc p) 1 ≡ false = grind (arith, nat_tests
     and_false true = refl
     and_false false = refl
 
+-- one row more
+pub slots_more : (opened : World) (limits : Limits) (n : ℕ) (slots : List Slot) (body : Dictionary) → body.map ≡ [] → AreFirstSlots opened limits n slots → AreFirstSlots opened limits (n + 1) (slots ++ Some (stored.Body body) ∷ [])
+slots_more opened limits n slots body none s = record {
+  types = s.types;
+  bodies = s.bodies ++ Some (stored.Body body) ∷ [];
+  are = ap (λ xs. xs ++ Some (stored.Body body) ∷ []) s.are;
+  agrees = s.agrees;
+  long = let l = length-append s.bodies (Some (stored.Body body) ∷ []) in let e = s.long in omega arith;
+  empty = λ o x e. ⊎_elim (λ (old : get_elem? s.bodies o ≡ some x). s.empty o x old) (λ (new : Some (stored.Body body) ≡ x). (body, sym new, none)) (at_snoc s.bodies (Some (stored.Body body)) x o e);
+}
+
+-- the opening state
+pub first_core : (opened : World) (limits : Limits) (a : Core) (o : IsOpening opened limits a) → a ≡ record {
+  table = opening opening_words (Some o.slots_are.types ∷ o.slots_are.bodies) (first_view limits);
+  hands = λ id slot. None;
+  ghost = record { history = []; lists = opening_lists limits };
+}
+first_core opened limits a o = o.after ∙ ap (λ (slots : List Slot). record {
+  table = opening opening_words slots (first_view limits);
+  hands = λ id slot. None;
+  ghost = record { history = []; lists = opening_lists limits };
+}) o.slots_are.are
+
 module _ (opened : World) (limits : Limits) (a : Core) (allowed : IsAllowed limits) (o : IsOpening opened limits a) where
   v : View
   v = first_view limits
@@ -114,24 +142,24 @@ module _ (opened : World) (limits : Limits) (a : Core) (allowed : IsAllowed limi
   }
 
   homes : Homes
-  homes = map some (Some o.types ∷ o.bodies)
+  homes = map some (Some o.slots_are.types ∷ o.slots_are.bodies)
 
-  slot_is : (l : lock.Lock) → IsLock l → SlotRule limits opened (opening_lists limits) (shape_under (heads_of (words_of opening_words)) l) l (words_of opening_words (lock_word l)) (get_elem? (map some (Some o.types ∷ o.bodies)) (slot_of l))
-  slot_is locks.Types is = record { at_home = λ _. (o.types, refl, o.agrees); out = λ busy. let z = free_at_first locks.Types in absurd (omega arith) }
+  slot_is : (l : lock.Lock) → IsLock l → SlotRule limits opened (opening_lists limits) (shape_under (heads_of (words_of opening_words)) l) l (words_of opening_words (lock_word l)) (get_elem? (map some (Some o.slots_are.types ∷ o.slots_are.bodies)) (slot_of l))
+  slot_is locks.Types is = record { at_home = λ _. (o.slots_are.types, refl, o.slots_are.agrees); out = λ busy. let z = free_at_first locks.Types in absurd (omega arith) }
   slot_is (locks.Row k) is =
-      let lt : k < length o.bodies = (let e = o.long in grind (arith, is, e)) in
-      let there = has_index o.bodies k lt in
-      let body = o.empty k there.0 there.1 in
+      let lt : k < length o.slots_are.bodies = (let e = o.slots_are.long in grind (arith, is, e)) in
+      let there = has_index o.slots_are.bodies k lt in
+      let body = o.slots_are.empty k there.0 there.1 in
       record {
         at_home = λ _. (
           stored.Body body.0,
-          at_map some o.bodies k there.0 there.1 ∙ ap (λ x. some (some x)) body.1,
+          at_map some o.slots_are.bodies k there.0 there.1 ∙ ap (λ x. some (some x)) body.1,
           (body.0, refl, record { full = λ h. absurd (no_dictionary (heads_of (words_of opening_words) k) (head_at_first k) h); empty = λ _. body.2 }),
         );
         out = λ busy. let z = free_at_first (locks.Row k) in absurd (omega arith);
       }
 
-  parts : Parts opened limits (words_of opening_words) (map some (Some o.types ∷ o.bodies)) (first_view limits ∷ []) (record { history = []; lists = opening_lists limits })
+  parts : Parts opened limits (words_of opening_words) (map some (Some o.slots_are.types ∷ o.slots_are.bodies)) (first_view limits ∷ []) (record { history = []; lists = opening_lists limits })
   parts = record {
     history = record {
       counted = refl;
@@ -165,10 +193,17 @@ module _ (opened : World) (limits : Limits) (a : Core) (allowed : IsAllowed limi
   }
 
   pub opens : CoreHolds opened limits a
-  opens = subst (CoreHolds opened limits) (sym o.after) (record {
-    table_holds = record { words_are = long_enough; slots_are = ap suc (length-map o.bodies some ∙ o.long); small = allowed; parts = parts };
+  opens = subst (CoreHolds opened limits) (sym (first_core opened limits a o)) (record {
+    table_holds = record { words_are = long_enough; slots_are = ap suc (length-map o.slots_are.bodies some ∙ o.slots_are.long); small = allowed; parts = parts };
     hands_are = λ id u l e is. each_one (λ i x. false ≡ holds l x) (first_view limits) (sym (nothing_held l)) id u e;
   })
 
 pub opening_holds : OpeningHolds
 opening_holds = opens
+
+-- The rule holds of a table that is opened so
+pub opened_base : (limits : Limits) (words : List ℕ) (slots : List Slot) → IsAllowed limits → words ≡ opening_words → AreFirstSlots model.opening limits objects slots → Base model.opening limits (opening words slots (first_view limits))
+opened_base limits words slots allowed words_are slots_are =
+    let a : Core = record { table = opening opening_words slots (first_view limits); hands = λ id slot. None; ghost = record { history = []; lists = opening_lists limits } } in
+    let holds = opens model.opening limits a allowed (record { whole = opening_is_formed; objectless = refl; slots = slots; slots_are = slots_are; after = refl }) in
+    subst (λ (ws : List ℕ). Base model.opening limits (opening ws slots (first_view limits))) (sym words_are) (record { ghost = a.ghost; holds = holds.table_holds })

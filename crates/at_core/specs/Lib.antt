@@ -5,3 +5,6 @@ pub mod Rule
 pub mod Steps
 pub mod Plays
 pub mod Runs
+pub mod Opened
+pub mod Passes
+pub mod SomeRun

@@ -1,6 +1,6 @@
 -- What each part of the rule reads of a view, and no more: a part is said over these records, so that a step which leaves
 -- them leaves the part.
-use Rattle.std.specs.Prelude.{ℕ, Bool, List, map}
+use Rattle.std.specs.Prelude.{ℕ, ◌==◌, Bool, List, [], ◌∷◌, map, Option, Some, None, if◌then◌else◌}
 use Rattle.at_value.specs.declared.limits.Limits.{Limits}
 use Rattle.at_value.specs.declared.operation.Op as op
 use Rattle.at_view.specs.declared.mark.Trail.{Trail}
@@ -93,3 +93,12 @@ pub record LimitRead : Type 0 where
 
 abbrev pub limit_read : View → LimitRead
 limit_read v = record { live = v.who.live; limits = v.who.limits }
+
+-- the number of a slot in hand
+abbrev pub slot_number : {A : Type 0} → ℕ × A → ℕ
+slot_number slot = slot.0
+
+-- what a hand has under the number of a slot
+abbrev pub in_hand : {A : Type 0} → ℕ → List (ℕ × A) → Option A
+in_hand k [] = None
+in_hand k (slot ∷ slots) = if k == slot.0 then Some slot.1 else in_hand k slots

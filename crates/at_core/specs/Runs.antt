@@ -188,17 +188,26 @@ opening_lists limits = record { numbers = opening_numbers; next_birth = 1; pool 
 abbrev pub IsEmptyBody : Slot → Type 0
 IsEmptyBody x = (body : Dictionary) × (x ≡ Some (stored.Body body)) × (body.map ≡ [])
 
--- At first the slots have the types of the opening world, which has no object, and an empty dictionary for each row.
-pub record IsOpening (opened : World) (limits : Limits) (a : Core) : Type 0 where
+-- At first the slots have the types of the opening world, and an empty dictionary for each of so many rows.
+pub record AreFirstSlots (opened : World) (limits : Limits) (rows : ℕ) (slots : List Slot) : Type 0 where
   pub types : Stored
   pub bodies : List Slot
+  pub are : slots ≡ Some types ∷ bodies
+  pub agrees : (t : _) × (types ≡ stored.Types t) × TypesAgree limits.tags opened (opening_lists limits) t.value
+  pub long : length bodies ≡ rows
+  pub empty : (o : ℕ) (x : Slot) → get_elem? bodies o ≡ some x → IsEmptyBody x
+
+abbrev pub AreOpeningSlots : World → Limits → List Slot → Type 0
+AreOpeningSlots opened limits slots = AreFirstSlots opened limits objects slots
+
+-- The opening world has no object, and the first pass has done nothing.
+pub record IsOpening (opened : World) (limits : Limits) (a : Core) : Type 0 where
   pub whole : IsWellFormed opened
   pub objectless : opened.objects ≡ []
-  pub agrees : (t : _) × (types ≡ stored.Types t) × TypesAgree limits.tags opened (opening_lists limits) t.value
-  pub long : length bodies ≡ objects
-  pub empty : (o : ℕ) (x : Slot) → get_elem? bodies o ≡ some x → IsEmptyBody x
+  pub slots : List Slot
+  pub slots_are : AreOpeningSlots opened limits slots
   pub after : a ≡ record {
-    table = opening opening_words (Some types ∷ bodies) (first_view limits);
+    table = opening opening_words slots (first_view limits);
     hands = λ id slot. None;
     ghost = record { history = []; lists = opening_lists limits };
   }

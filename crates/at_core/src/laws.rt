@@ -1,5 +1,6 @@
 //! What is true of every run of the core. Each function does nothing: its contract is the law.
 ghost use Rattle.at_core.specs.Runs.{EveryRunHolds, OpeningHolds};
+ghost use Rattle.at_core.specs.SomeRun.{HaveEachKind, SomeRunGoes};
 
 /// However passes interleave, the rule of the table holds after each step of each run: locks have one holder, a value at
 /// home agrees with the history, a held lock keeps what it protects, births and numbers are distinct, and a slot is out
@@ -9,4 +10,10 @@ ghost use Rattle.at_core.specs.Runs.{EveryRunHolds, OpeningHolds};
 pub fn every_run()
     ensures opened { OpeningHolds }
     ensures kept { EveryRunHolds }
+{}
+
+/// There are such runs: this one goes from every opening state, and each kind of step is made in it.
+pub fn some_run()
+    ensures kinds { HaveEachKind }
+    ensures goes { SomeRunGoes }
 {}

@@ -2,11 +2,18 @@
 //! rule.
 #![tactic(auto)]
 
+pub mod family;
+mod hand;
 pub mod laws;
 pub mod lock;
+pub mod locking;
+mod open_world;
 pub mod stored;
 #[cfg(test)]
 mod tests;
+pub mod world;
 
 pub use lock::Lock;
+pub use open_world::OpenFault;
 pub use stored::Stored;
+pub use world::{Pass, World};

@@ -1,7 +1,87 @@
-//! The laws of the core. Each call does nothing: its contract is proved.
-use crate::laws;
+//! The steps of the core on a world of its own, and the laws. Each call of a law does nothing: its contract is proved.
+ghost use Rattle.std.specs.Prelude.{◌≡◌, ◌<◌, false, length};
+ghost use Rattle.at_core.specs.Locks.{holds};
+ghost use Rattle.at_core.specs.Passes.{view, hand, IsOf, IsSame};
+
+use crate::locking::{slot_in, slot_out, try_lock, unlock};
+use crate::world::MOST_HELD;
+use crate::{Lock, OpenFault, Pass, Stored, World, laws};
+use at_value::{Limits, Obj};
 
 #[test]
 fn laws_hold() {
     laws::every_run();
+    laws::some_run();
+}
+
+#[test]
+fn limits_are_looked_at(rt: HostRuntime) {
+    let alloc = rt.alloc();
+    let widest = Limits::program();
+    let bad = [
+        Limits {
+            place_max: widest.place_max + 1,
+            ..widest
+        },
+        Limits {
+            head_max: 0,
+            ..widest
+        },
+        Limits {
+            head_max: 3,
+            ..widest
+        },
+        Limits {
+            head_max: widest.head_max + 2,
+            ..widest
+        },
+        Limits { tags: 0, ..widest },
+        Limits {
+            tags: 1_024,
+            ..widest
+        },
+    ];
+    for limits in bad {
+        assert!(rt; matches!(World::open(alloc, limits), Err(OpenFault::BadLimits)));
+    }
+}
+
+#[test]
+fn a_first_pass_takes_what_it_tries(rt: HostRuntime) -> Result<(), OpenFault> {
+    let (world, mut pass) = World::open(rt.alloc(), Limits::program())?;
+    assert_eq!(rt; world.limits(), Limits::program());
+    assert_eq!(rt; try_lock(&world, &mut pass, Lock::Types), 0);
+    let types = slot_out(&world, &mut pass, Lock::Types);
+    assert!(rt; matches!(types, Stored::Types(_)));
+    slot_in(&world, &mut pass, Lock::Types, types);
+    Ok(())
+}
+
+/// Takes a lock and gives it back, and gives what its word was.
+fn take_and_give(world: &World, pass: &mut Pass, lock: &Lock) -> u64
+    requires of { IsOf pass.old world.now }
+    requires out { holds lock.now (view pass.old) ≡ false }
+    requires room { length (hand pass.old) < MOST_HELD }
+    ensures { IsSame pass.old pass.new × IsOf pass.new world.now }
+{
+    let found = try_lock(world, pass, *lock);
+    if found == 0 {
+        unlock(world, pass, *lock);
+    }
+    found
+}
+
+#[test]
+fn the_types_go_back(rt: HostRuntime) -> Result<(), OpenFault> {
+    let (world, mut pass) = World::open(rt.alloc(), Limits::program())?;
+    assert_eq!(rt; take_and_give(&world, &mut pass, &Lock::Types), 0);
+    Ok(())
+}
+
+#[test]
+fn a_row_goes_back(rt: HostRuntime) -> Result<(), OpenFault> {
+    let (world, mut pass) = World::open(rt.alloc(), Limits::program())?;
+    let lock = Lock::Row(Obj::new(4_095).unwrap());
+    assert_eq!(rt; take_and_give(&world, &mut pass, &lock), 0);
+    Ok(())
 }

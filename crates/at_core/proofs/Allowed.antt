@@ -1,0 +1,147 @@
+-- What each call on the table owes: the step is allowed whatever the table is, and tells what its play says.
+use Rattle.std.proofs.Common.{◌≡◌, ◌≢◌, ℕ, suc, true, false, eqb, List, [], ◌∷◌, get_or, refl, sym, ap, ◌∙◌, subst, ⊎_elim, arith}
+use Rattle.std.specs.Prelude.{Some}
+use mathlib.Core.Option.{some, none}
+use lib.ListN.{get_elem?}
+use prog.Atomic.{either}
+use Rattle.atomic_table.specs.Table.{Me, Act, keeps, takes, gives, step, stepped, carried_after, Valid, Allows, Splits, Joins}
+use Rattle.atomic_table.proofs.Lists.{exchanged, at_map, at_set}
+use Rattle.at_value.specs.declared.limits.Limits.{Limits}
+use Rattle.at_model.specs.World.{World}
+use Rattle.at_model.specs.History.{replay}
+use Rattle.at_view.specs.declared.view.TypeLists.{TypeLists}
+use Rattle.at_view.specs.declared.view.View.{View}
+use Rattle.at_view.specs.Views.{blank}
+use Rattle.at_view.specs.Words.{family, first_index, number_of}
+use Rattle.at_view.proofs.WordLaws.{apart}
+use Rattle.at_core.specs.declared.lock.Lock as lock
+use Rattle.at_core.specs.declared.lock.Lock.TheVariants as locks
+use Rattle.at_core.specs.declared.stored.Stored.{Stored}
+use Rattle.at_core.specs.Heads.{Shape, shape_of}
+use Rattle.at_core.specs.Locks.{lock_word, slot_of, hold_of, holds}
+use Rattle.at_core.specs.Reads.{kin_read, limit_read, join_read}
+use Rattle.at_core.specs.Rule.{Slot, Board, Ghost, Holds, Base, IsLock, Agrees, words_of, heads_of, shape_under}
+use Rattle.at_core.specs.Steps.{Moment, taken, missed, given, lists_given, ValueAgrees, MayGive, MaySplit, parted, child, lists_parted, MayJoin, merged, lists_joined, copied_heads}
+use Rattle.at_core.specs.Plays.{Took, Takes, Brought, Gives}
+use Rattle.at_core.proofs.Prefixes.{prefix_shorter}
+use Rattle.at_core.proofs.WordLemmas.{said}
+use Rattle.at_core.proofs.LockLemmas.{hold_taken, copy_taken}
+use Rattle.at_core.proofs.Parts.{seen_begins}
+use Rattle.at_core.proofs.LivePasses.{alone_saw, found, younger, own_once}
+use Rattle.at_core.proofs.Moves.{take_moves, miss_moves, give_moves, split_moves, join_moves}
+
+word_one : (l k : lock.Lock) → lock_word l ≡ lock_word k → l ≡ k
+word_one locks.Types locks.Types e = refl
+word_one locks.Types (locks.Row o) e = let z : ◌≡◌ {A = ℕ} 1 9 = ap family e in absurd (omega arith)
+word_one (locks.Row o) locks.Types e = let z : ◌≡◌ {A = ℕ} 9 1 = ap family e in absurd (omega arith)
+word_one (locks.Row o) (locks.Row p) e = ap (λ (n : ℕ). locks.Row n) (ap first_index e)
+
+-- the lock that has a word is one
+pub lock_one : (l k : lock.Lock) → IsLock l → IsLock k → number_of (lock_word l) ≡ number_of (lock_word k) → l ≡ k
+lock_one l k is is' e = word_one l k (apart (lock_word l) (lock_word k) is is' e)
+
+module _ (opened : World) (limits : Limits) where
+  module _ (s : Board) (g : Ghost) (h : Holds opened limits s g) (id : ℕ) (v : View) (at : get_elem? s.views id ≡ some v) (live : v.who.live ≡ true) where
+    abbrev now : Moment
+    now = record { history = g.history; lists = g.lists; words = words_of s.words }
+
+    shape_taken : (l : lock.Lock) → shape_under (heads_of (words_of s.words)) l ≡ shape_under (copied_heads (taken l v now)) l
+    shape_taken locks.Types = refl
+    shape_taken (locks.Row o) = ap (λ w. shape_of w.head) (sym (copy_taken o v now))
+
+    -- the value that comes with a lock is right
+    value_right : (l : lock.Lock) (x : Stored) → Agrees limits (replay opened g.history) g.lists (shape_under (heads_of (words_of s.words)) l) l x → ValueAgrees opened l (taken l v now) g.lists x
+    value_right l x a =
+        let limit : limits ≡ v.who.limits = sym (h.parts.limited id (limit_read v) (at_map limit_read s.views id v at) live) in
+        let since : g.history ≡ (hold_of l (taken l v now)).since = ap (λ y. y.since) (sym (hold_taken l v now)) in
+        let Q : Limits × List _ × Shape → Type 0 = λ y. Agrees y.0 (replay opened y.1) g.lists y.2 l x in
+        subst Q (λ i. (limit i, since i, shape_taken l i)) a
+
+    pub took : (l : lock.Lock) (x : Stored) → Agrees limits (replay opened g.history) g.lists (shape_under (heads_of (words_of s.words)) l) l x → Took opened l v now x
+    took l x a = record {
+      later = seen_begins h.parts id v at;
+      alone = λ alone. alone_saw h.parts id v at live alone;
+      proper = h.parts.history.proper;
+      value = value_right l x a;
+      numbers = h.parts.numbers.whole;
+      born = h.parts.kin.below id (kin_read v) (at_map kin_read s.views id v at);
+      younger = younger h.parts id v at live;
+    }
+
+    pub brought : Brought v
+    brought =
+        let seen = seen_begins h.parts id v at in
+        let j = h.parts.joins id (join_read v) (at_map join_read s.views id v at) in
+        record {
+          first = λ le. prefix_shorter v.joined.first v.history.seen g.history j.0 seen le;
+          second = λ le. prefix_shorter v.joined.second v.history.seen g.history j.1 seen le;
+          once = own_once h.parts id v at live;
+        }
+
+  -- a try to take a lock
+  pub tries : (slots id : ℕ) (me : Me Slot View) (l : lock.Lock) (new : ℕ) → IsLock l → me.0.who.live ≡ true → holds l me.0 ≡ false → new ≡ suc me.0.who.number
+      → Allows (Base opened limits) slots id me (number_of (lock_word l)) (λ n. either (eqb n 0) new n) (Takes opened (step slots (number_of (lock_word l)) 0 new none) me)
+  tries slots id me l new is live out mine s b deep at small =
+      let v = me.0 in
+      let g = b.ghost in
+      let n : ℕ = get_or s.words (number_of (lock_word l)) 0 in
+      let word : words_of s.words (lock_word l) ≡ n = said s.words (lock_word l) is in
+      let F : ℕ → Type 0 = λ k. (w : View) × (a : Act Slot) × Valid s.homes me.1 a × Base opened limits (stepped s (number_of (lock_word l)) k id me.1 w a)
+      × Takes opened (step slots (number_of (lock_word l)) 0 new none) me n (w, carried_after me.1 a) in
+      exchanged n 0 new F
+      (λ free.
+      let home = (b.holds.parts.slots l is).at_home (word ∙ free) in
+      let x = home.0 in
+      let w : View = taken l v (now s g b.holds id v at live) in (
+        w,
+        takes (slot_of l) (Some x),
+        home.1,
+        subst (λ (k : ℕ). Base opened limits (stepped s (number_of (lock_word l)) k id me.1 w (takes (slot_of l) (Some x)))) (sym mine)
+            (record { ghost = g; holds = take_moves opened limits s g b.holds id v at live me.1 l x is (word ∙ free) }),
+        λ k k_is.
+            let same : l ≡ k = lock_one l k is k_is.there k_is.is in
+            let tells : (j : lock.Lock) → Type 0 = λ j. (n ≡ 0 → (a : Moment) × (y : Stored) × ◌≡◌ {A = Me Slot View} (w, (slot_of l, Some x) ∷ me.1) (taken j v a, (slot_of j, Some y) ∷ me.1) × Took opened j v a y) in
+            (refl, mine, subst tells same (λ _. (now s g b.holds id v at live, x, refl, took s g b.holds id v at live l x home.2)), λ busy. absurd (busy free)),
+      ))
+      (λ busy. (
+        missed l v n,
+        keeps,
+        tt,
+        record { ghost = g; holds = miss_moves opened limits s g b.holds id v at live me.1 l n is (sym word) },
+        λ k k_is.
+            let same : l ≡ k = lock_one l k is k_is.there k_is.is in
+            (refl, mine, (λ free. absurd (busy free)), λ _. (ap (λ (j : lock.Lock). (missed j v n, me.1)) same, found b.holds.parts id v at live l n (sym word) busy out)),
+      ))
+
+  -- a lock is given back
+  pub returns_it : (slots id : ℕ) (v : View) (l : lock.Lock) (back : TypeLists) (x : Stored) (others : List (ℕ × Slot)) → IsLock l → v.who.live ≡ true → MayGive opened l v back x
+      → let me : Me Slot View = (v, (slot_of l, Some x) ∷ others) in
+      Allows (Base opened limits) slots id me (number_of (lock_word l)) (λ _. 0) (λ _. Gives (step slots (number_of (lock_word l)) 0 0 none) me 0)
+  returns_it slots id v l back x others is live may s b deep at small = (
+    given l v,
+    gives,
+    tt,
+    record { ghost = record (b.ghost) { lists = lists_given l back b.ghost.lists }; holds = give_moves opened limits s b.ghost b.holds id v at live ((slot_of l, Some x) ∷ others) l back x others is may },
+    λ k k_is.
+        let same : l ≡ k = lock_one l k is k_is.there k_is.is in
+        (refl, ap (λ (j : lock.Lock). (given j v, others)) same, brought s b.ghost b.holds id v at live),
+  )
+
+  -- a pass splits off
+  pub splits : (id : ℕ) (v : View) (number : ℕ) → v.who.live ≡ true → MaySplit v number → Splits (Base opened limits) id v (parted v) (child v)
+  splits id v number live may s b at = record {
+    ghost = record (b.ghost) { lists = lists_parted b.ghost.lists };
+    holds = split_moves opened limits s b.ghost b.holds id v at live [] number may;
+  }
+
+  -- a pass takes in another
+  pub joins : (id : ℕ) (v : View) (other : ℕ) (w : View) → v.who.live ≡ true → w.who.live ≡ true → MayJoin v w → Joins (Base opened limits) id v other w (merged v w) blank
+  joins id v other w live live' may s b at ne at' =
+      let there : get_elem? s.views other ≡ some w = ⊎_elim
+      (λ (t : (other ≡ id) × (merged v w ≡ w)). absurd (ne t.0))
+      (λ (t : (other ≢ id) × (get_elem? s.views other ≡ some w)). t.1)
+      (at_set s.views id other (merged v w) w at') in
+      record {
+        ghost = record (b.ghost) { lists = lists_joined b.ghost.lists w.who.number };
+        holds = join_moves opened limits s b.ghost b.holds id v at live [] other w ne there live' may;
+      }

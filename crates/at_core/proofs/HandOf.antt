@@ -1,0 +1,34 @@
+-- A pass that holds no lock has nothing in hand.
+use Rattle.std.proofs.Common.{◌≡◌, ℕ, zero, suc, ◌<◌, Bool, true, false, true≢false, List, [], ◌∷◌, map, eq-eqb, refl, sym, ap, ◌∙◌, arith}
+use Rattle.std.specs.Prelude.{Some, is_some, nat_lt, if◌then◌else◌}
+use Rattle.std.proofs.lemmas.Bool.Decides.{nat_tests}
+use Rattle.at_value.specs.Widths.{objects}
+use Rattle.at_types.specs.Tags.{times}
+use Rattle.at_view.specs.declared.view.View.{View}
+use Rattle.at_core.specs.declared.lock.Lock as lock
+use Rattle.at_core.specs.declared.lock.Lock.TheVariants as locks
+use Rattle.at_core.specs.Locks.{slot_of, holds}
+use Rattle.at_core.specs.Reads.{slot_number, in_hand}
+use Rattle.at_core.specs.Rule.{IsLock}
+use Rattle.at_core.proofs.Counts.{weight_same, times_cons}
+
+-- the lock of a slot of the table
+record HasLock (k : ℕ) : Type 0 where
+  l : lock.Lock
+  is : IsLock l
+  slot : slot_of l ≡ k
+
+lock_at : (k : ℕ) → k < suc objects → HasLock k
+lock_at zero lt = record { l = locks.Types; is = refl; slot = refl }
+lock_at (suc o) lt = record { l = locks.Row o; is = (let yes : nat_lt o objects ≡ true = grind (arith, nat_tests, lt) in yes); slot = refl }
+
+pub nothing_in_hand : {A : Type 0} (v : View) (hand : List (ℕ × A)) → ((k : ℕ) → 0 < times k (map slot_number hand) → k < suc objects)
+    → ((l : lock.Lock) → IsLock l → is_some (in_hand (slot_of l) hand) ≡ holds l v) → ((l : lock.Lock) → holds l v ≡ false) → hand ≡ []
+nothing_in_hand v [] within right free = refl
+nothing_in_hand v (s ∷ ss) within right free =
+    let first = weight_same s.0 in
+    let c = times_cons s.0 s.0 (map slot_number ss) in
+    let h = lock_at s.0 (within s.0 (omega arith)) in
+    let here : is_some (in_hand s.0 (s ∷ ss)) ≡ true = ap (λ (b : Bool). is_some (if b then Some s.1 else in_hand s.0 ss)) (eq-eqb s.0 s.0 refl) in
+    let none_here : is_some (in_hand s.0 (s ∷ ss)) ≡ false = ap (λ (k : ℕ). is_some (in_hand k (s ∷ ss))) (sym h.slot) ∙ (right h.l h.is ∙ free h.l) in
+    absurd (true≢false (sym here ∙ none_here))

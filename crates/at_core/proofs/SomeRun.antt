@@ -1,0 +1,239 @@
+-- The run that is written out.
+use Rattle.std.proofs.Common.{◌≡◌, ◌≢◌, ℕ, zero, suc, Bool, false, IsTrue, List, [], ◌∷◌, length, map, set, drop, refl, sym, ap, ◌∙◌, subst, arith, length-set}
+use Rattle.std.specs.Prelude.{Some, None}
+use mathlib.Core.Option.{some}
+use lib.ListN.{get_elem?}
+use Rattle.atomic_table.proofs.Lists.{at_map}
+use Rattle.at_value.specs.declared.limits.Limits.{Limits}
+use Rattle.at_model.specs.World.{World}
+use Rattle.at_dict.specs.Dictionary.{Dictionary}
+use Rattle.at_view.specs.declared.view.TypeLists.{TypeLists}
+use Rattle.at_view.specs.declared.view.View.{View}
+use Rattle.at_view.specs.Views.{first_view}
+use Rattle.at_view.specs.Words.{Word, number_of, is_there, is_same, table_words, type_lock, row_lock, head}
+use Rattle.at_core.specs.declared.lock.Lock as lock
+use Rattle.at_core.specs.declared.lock.Lock.TheVariants as locks
+use Rattle.at_core.specs.declared.stored.Stored.{Stored}
+use Rattle.at_core.specs.declared.stored.Stored.TheVariants as stored
+use Rattle.at_core.specs.Locks.{slot_of, holds}
+use Rattle.at_core.specs.Rule.{Homes, TypesAgree, words_of}
+use Rattle.at_core.specs.Steps.{Moment, taken, missed, given, lists_parted, child, lists_joined}
+use Rattle.at_core.specs.Runs.{Core, Event, lock_take, lock_miss, lock_give, slot_out, slot_in, split, join, moment_of, opening_lists, opening_words, Goes, Leads}
+use Rattle.at_core.specs.SomeRun.{some_events, HaveEachKind, SomeRunGoes}
+use Rattle.at_core.proofs.WordLemmas.{updated_here, updated_else, stored}
+use Rattle.at_core.proofs.LockLemmas.{hold_beside, hold_kept}
+use Rattle.at_core.proofs.Opening.{first_core, has_index, free_at_first, head_at_first, no_dictionary, long_enough}
+
+pub have_each_kind : HaveEachKind
+have_each_kind x y (lock_take id l) = (0, omega arith, refl)
+have_each_kind x y (slot_out id l) = (1, omega arith, refl)
+have_each_kind x y (split id) = (2, omega arith, refl)
+have_each_kind x y (slot_in id l z) = (3, omega arith, refl)
+have_each_kind x y (lock_miss id l) = (4, omega arith, refl)
+have_each_kind x y (lock_give id l) = (5, omega arith, refl)
+have_each_kind x y (join id other) = (10, omega arith, refl)
+
+-- a word that was stored, and another one
+said_here : (words : List ℕ) → length words ≡ table_words → (a : Word) (n : ℕ) → IsTrue (is_there a) → words_of (set words (number_of a) n) a ≡ n
+said_here words wide a n here = ap (λ w. w a) (stored words wide a n here) ∙ updated_here (words_of words) a n
+
+said_else : (words : List ℕ) → length words ≡ table_words → (a b : Word) (n : ℕ) → IsTrue (is_there a) → is_same b a ≡ false → words_of (set words (number_of a) n) b ≡ words_of words b
+said_else words wide a b n here ne = ap (λ w. w b) (stored words wide a n here) ∙ updated_else (words_of words) a b n ne
+
+wide_still : (words : List ℕ) (i n : ℕ) → length words ≡ table_words → length (set words i n) ≡ table_words
+wide_still words i n wide = length-set words i n ∙ wide
+
+-- a new pass that found a lock held, and took a row and gave it back, has no lock
+row_let_go : (v : View) (n : ℕ) (at : Moment) (l : lock.Lock) → holds l (given (locks.Row 0) (taken (locks.Row 0) (missed locks.Types (child v) n) at)) ≡ false
+row_let_go v n at locks.Types = refl
+row_let_go v n at (locks.Row zero) = refl
+row_let_go v n at (locks.Row (suc o)) =
+    let ne : locks.Row (suc o) ≢ locks.Row 0 = λ e. let same = ap slot_of e in omega arith in
+    ap (λ h. h.held) (hold_kept (locks.Row (suc o)) (locks.Row 0) (taken (locks.Row 0) (missed locks.Types (child v) n) at) ne ∙ hold_beside (locks.Row (suc o)) (locks.Row 0) (missed locks.Types (child v) n) at ne)
+
+-- The run, over any words and homes of which this is known
+module _ (opened : World) (limits : Limits) (words : List ℕ) (wide : length words ≡ table_words) (free : words_of words type_lock ≡ 0) (row_free : words_of words (row_lock 0) ≡ 0) (unmade : words_of words (head 0) ≡ 0)
+    (types : Stored) (agrees : (t : _) × (types ≡ stored.Types t) × TypesAgree limits.tags opened (opening_lists limits) t.value)
+    (homes : Homes) (body : Dictionary) (home : get_elem? homes 0 ≡ some (some (Some (stored.Body body)))) (empty : body.map ≡ []) where
+  abbrev start : Core
+  start = record {
+    table = record { words = words; homes = some (Some types) ∷ homes; views = first_view limits ∷ [] };
+    hands = λ id slot. None;
+    ghost = record { history = []; lists = opening_lists limits };
+  }
+
+  -- The types that are put in
+
+  -- the lists once the second pass is split off, and once it is taken in
+  abbrev split_lists : TypeLists
+  split_lists = lists_parted (opening_lists limits)
+
+  abbrev join_lists : TypeLists
+  join_lists = lists_joined split_lists 1
+
+  -- the types with other numbers
+  abbrev types_with : List Bool → Stored
+  types_with numbers = stored.Types (record agrees.0 { value = record agrees.0.value { numbers = numbers } })
+
+  agree_with : (lists : TypeLists) → lists.pool ≡ (opening_lists limits).pool → lists.limbo ≡ (opening_lists limits).limbo
+      → (t : _) × (types_with lists.numbers ≡ stored.Types t) × TypesAgree limits.tags opened lists t.value
+  agree_with lists pool limbo =
+      let g = agrees.2 in
+      (_, refl, record { stands = record { classes = g.stands.classes; objects = g.stands.objects }; size = g.size; numbers = refl; pool = g.pool ∙ sym pool; limbo = g.limbo ∙ sym limbo })
+
+  -- The words: the lock of the types is taken, found held and given back, and then a row is taken and given back
+
+  abbrev held_words : List ℕ
+  held_words = set words (number_of type_lock) 1
+
+  abbrev missed_words : List ℕ
+  missed_words = set held_words (number_of type_lock) (words_of held_words type_lock)
+
+  abbrev freed_words : List ℕ
+  freed_words = set missed_words (number_of type_lock) 0
+
+  abbrev row_words : List ℕ
+  row_words = set freed_words (number_of (row_lock 0)) 2
+
+  abbrev last_words : List ℕ
+  last_words = set row_words (number_of (row_lock 0)) 0
+
+  held_wide : length held_words ≡ table_words
+  held_wide = wide_still words (number_of type_lock) 1 wide
+
+  missed_wide : length missed_words ≡ table_words
+  missed_wide = wide_still held_words (number_of type_lock) (words_of held_words type_lock) held_wide
+
+  freed_wide : length freed_words ≡ table_words
+  freed_wide = wide_still missed_words (number_of type_lock) 0 missed_wide
+
+  row_wide : length row_words ≡ table_words
+  row_wide = wide_still freed_words (number_of (row_lock 0)) 2 freed_wide
+
+  busy : words_of held_words type_lock ≡ 1
+  busy = said_here words wide type_lock 1 refl
+
+  -- the lock of the types is free again, and no other word has changed
+  still : (a : Word) → is_same a type_lock ≡ false → words_of freed_words a ≡ words_of words a
+  still a ne = said_else missed_words missed_wide type_lock a 0 refl ne ∙ (said_else held_words held_wide type_lock a (words_of held_words type_lock) refl ne ∙ said_else words wide type_lock a 1 refl ne)
+
+  free_again : words_of last_words type_lock ≡ 0
+  free_again = said_else row_words row_wide (row_lock 0) type_lock 0 refl refl ∙ (said_else freed_words freed_wide (row_lock 0) type_lock 2 refl refl ∙ said_here missed_words missed_wide type_lock 0 refl)
+
+  -- The steps, each from where the one before leads
+
+  abbrev StepFrom : Event → Core → Type 0
+  StepFrom event a = (b : Core) × Goes opened event a b
+
+  abbrev takes_types : StepFrom (lock_take 0 locks.Types) start
+  takes_types = (_, record { view = _; value = types; makes = record { there = refl; live = refl }; asked = refl; is_lock = refl; free = free; home = refl; after = refl })
+
+  abbrev has_types_out : StepFrom (slot_out 0 locks.Types) takes_types.0
+  has_types_out = (_, (types, record { view = _; makes = record { there = refl; live = refl }; is_lock = refl; asked = refl; in_hand = refl; after = refl }))
+
+  abbrev splits_off : StepFrom (split 0) has_types_out.0
+  splits_off = (_, record { view = _; number = 1; makes = record { there = refl; live = refl }; out = refl; asked = record { alone = record { types = refl; rows = λ o. refl }; free = refl }; after = refl })
+
+  abbrev puts_types_in : StepFrom (slot_in 0 locks.Types (types_with split_lists.numbers)) splits_off.0
+  puts_types_in = (_, record { view = _; makes = record { there = refl; live = refl }; is_lock = refl; asked = refl; in_hand = refl; after = refl })
+
+  abbrev finds_held : StepFrom (lock_miss 1 locks.Types) puts_types_in.0
+  finds_held = (_, record { view = _; makes = record { there = refl; live = refl }; is_lock = refl; asked = refl; busy = λ e. let b = busy in absurd (omega arith); after = refl })
+
+  abbrev gives_types : StepFrom (lock_give 0 locks.Types) finds_held.0
+  gives_types = (
+    _,
+    record {
+      view = _;
+      value = types_with split_lists.numbers;
+      back = split_lists;
+      makes = record { there = refl; live = refl };
+      is_lock = refl;
+      in_hand = refl;
+      asked = record { held = refl; returns = refl; agrees = agree_with split_lists refl refl };
+      after = refl;
+    },
+  )
+
+  abbrev takes_row : StepFrom (lock_take 1 (locks.Row 0)) gives_types.0
+  takes_row = (_, record { view = _; value = stored.Body body; makes = record { there = refl; live = refl }; asked = refl; is_lock = refl; free = still (row_lock 0) refl ∙ row_free; home = home; after = refl })
+
+  abbrev gives_row : StepFrom (lock_give 1 (locks.Row 0)) takes_row.0
+  gives_row = (
+    _,
+    record {
+      view = _;
+      value = stored.Body body;
+      back = _;
+      makes = record { there = refl; live = refl };
+      is_lock = refl;
+      in_hand = refl;
+      asked = record { held = refl; returns = refl; agrees = (body, refl, record { full = λ h. absurd (no_dictionary _ (still (head 0) refl ∙ unmade) h); empty = λ _. empty }) };
+      after = refl;
+    },
+  )
+
+  abbrev takes_again : StepFrom (lock_take 0 locks.Types) gives_row.0
+  takes_again = (_, record { view = _; value = types_with split_lists.numbers; makes = record { there = refl; live = refl }; asked = refl; is_lock = refl; free = free_again; home = refl; after = refl })
+
+  abbrev has_out_again : StepFrom (slot_out 0 locks.Types) takes_again.0
+  has_out_again = (_, (types_with split_lists.numbers, record { view = _; makes = record { there = refl; live = refl }; is_lock = refl; asked = refl; in_hand = refl; after = refl }))
+
+  abbrev takes_in : StepFrom (join 0 1) has_out_again.0
+  takes_in = (
+    _,
+    record {
+      view = _;
+      joined = _;
+      makes = record { there = refl; live = refl };
+      apart = λ e. omega arith;
+      ends = record { there = refl; live = refl };
+      out = refl;
+      asked = record {
+        alone = record { types = refl; rows = λ o. refl };
+        child = omega arith;
+        lockless = row_let_go (taken locks.Types (first_view limits) (moment_of start)) (words_of held_words type_lock) (moment_of gives_types.0);
+        closed = refl;
+        offline = refl;
+      };
+      after = refl;
+    },
+  )
+
+  abbrev puts_in_again : StepFrom (slot_in 0 locks.Types (types_with join_lists.numbers)) takes_in.0
+  puts_in_again = (_, record { view = _; makes = record { there = refl; live = refl }; is_lock = refl; asked = refl; in_hand = refl; after = refl })
+
+  abbrev gives_again : StepFrom (lock_give 0 locks.Types) puts_in_again.0
+  gives_again = (
+    _,
+    record {
+      view = _;
+      value = types_with join_lists.numbers;
+      back = join_lists;
+      makes = record { there = refl; live = refl };
+      is_lock = refl;
+      in_hand = refl;
+      asked = record { held = refl; returns = refl; agrees = agree_with join_lists refl refl };
+      after = refl;
+    },
+  )
+
+  -- those from the seventh on, and all
+  leads_on : Leads opened (drop 6 (some_events (types_with split_lists.numbers) (types_with join_lists.numbers))) gives_types.0 gives_again.0
+  leads_on = (_, takes_row.1, (_, gives_row.1, (_, takes_again.1, (_, has_out_again.1, (_, takes_in.1, (_, puts_in_again.1, (_, gives_again.1, refl)))))))
+
+  goes : (x y : Stored) × (b : Core) × Leads opened (some_events x y) start b
+  goes = (
+    types_with split_lists.numbers,
+    types_with join_lists.numbers,
+    gives_again.0,
+    (_, takes_types.1, (_, has_types_out.1, (_, splits_off.1, (_, puts_types_in.1, (_, finds_held.1, (_, gives_types.1, leads_on)))))),
+  )
+
+pub some_run_goes : SomeRunGoes
+some_run_goes opened limits a o =
+    let there = has_index o.slots_are.bodies 0 (let e = o.slots_are.long in omega arith) in
+    let body = o.slots_are.empty 0 there.0 there.1 in
+    subst (λ s. (x y : Stored) × (b : Core) × Leads opened (some_events x y) s b) (sym (first_core opened limits a o))
+    (goes opened limits opening_words long_enough (free_at_first locks.Types) (free_at_first (locks.Row 0)) (head_at_first 0) o.slots_are.types o.slots_are.agrees
+    (map some o.slots_are.bodies) body.0 (at_map some o.slots_are.bodies 0 there.0 there.1 ∙ ap (λ x. some (some x)) body.1) body.2)

@@ -1,0 +1,33 @@
+use Rattle.std.proofs.Common.{ℕ, ◌<◌, sym, ap, ◌∙◌, subst, arith}
+use Rattle.std.specs.Prelude.{is_some, map, ◌≤◌, suc}
+use Rattle.at_model.specs.World.{opening}
+use Rattle.at_types.specs.Tags.{times}
+use Rattle.at_value.specs.Widths.{objects}
+use Rattle.at_core.specs.Locks.{slot_of, holds}
+use Rattle.at_core.specs.Reads.{in_hand, slot_number}
+use Rattle.at_core.proofs.Allowed.{joins}
+use Rattle.at_core.proofs.HandOf.{nothing_in_hand}
+use Rattle.at_core.proofs.LockLemmas.{holds_merged}
+use Rattle.at_core.proofs.family.take_in.Goals as goal
+
+pub join_seat-requires : goal.join_seat-requires
+join_seat-requires c =
+    let seat = c.args.pass.now.seat in
+    let table = c.args.world.now.table.shared in
+    let room : 0 < table.table_id.words = subst (λ (n : ℕ). 0 < n) (sym c.args.world.now.sized.0) (omega arith) in
+    let other = c.args.other in
+    let empty = nothing_in_hand other.seat.me.0 other.seat.me.1 other.within other.right c.requires.may.lockless in
+    (c.requires.of.0.table, c.requires.of.1.table, empty, room, joins opening table.key seat.id seat.me.0 other.seat.id other.seat.me.0 c.args.pass.now.live other.live c.requires.may)
+
+pub invariant_of-pass : goal.invariant_of-pass
+invariant_of-pass c =
+    let p = c.args.pass.now in
+    let e = c.join_seat.ensures.2 in
+    record {
+      live = ap (λ m. m.0.who.live) e ∙ p.live;
+      numbered = (ap (λ m. m.0.who.number) e ∙ p.numbered.0, p.numbered.1);
+      listed = p.listed ∙ sym (ap (λ m. map slot_number m.1) e);
+      once = λ k. subst (λ hand. times k (map slot_number hand) ≤ 1) (sym (ap (λ m. m.1) e)) (p.once k);
+      within = λ k. subst (λ hand. 0 < times k (map slot_number hand) → k < suc objects) (sym (ap (λ m. m.1) e)) (p.within k);
+      right = λ l is. ap (λ m. is_some (in_hand (slot_of l) m.1)) e ∙ (p.right l is ∙ (sym (holds_merged l p.seat.me.0 c.args.other.seat.me.0) ∙ sym (ap (λ m. holds l m.0) e)));
+    }
