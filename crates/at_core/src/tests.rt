@@ -1,8 +1,10 @@
 //! The steps of the core on a world of its own, and the laws. Each call of a law does nothing: its contract is proved.
 ghost use Rattle.std.specs.Prelude.{◌≡◌, ◌<◌, false, length};
+ghost use Rattle.at_core.specs.declared.lock.Lock as lock;
 ghost use Rattle.at_core.specs.Locks.{holds};
 ghost use Rattle.at_core.specs.Passes.{view, hand, IsOf, IsSame};
 
+use crate::family::{split_off, take_in};
 use crate::locking::{slot_in, slot_out, try_lock, unlock};
 use crate::world::MOST_HELD;
 use crate::{Lock, OpenFault, Pass, Stored, World, laws};
@@ -83,5 +85,36 @@ fn a_row_goes_back(rt: HostRuntime) -> Result<(), OpenFault> {
     let (world, mut pass) = World::open(rt.alloc(), Limits::program())?;
     let lock = Lock::Row(Obj::new(4_095).unwrap());
     assert_eq!(rt; take_and_give(&world, &mut pass, &lock), 0);
+    Ok(())
+}
+
+/// A pass that holds no lock splits a new one off, and takes it in again. The word of the lock of the types is given.
+fn split_and_join(world: &World, pass: &mut Pass) -> u64
+    requires of { IsOf pass.old world.now }
+    requires out { (l : lock.Lock) → holds l (view pass.old) ≡ false }
+    requires room { length (hand pass.old) < MOST_HELD }
+    ensures { IsSame pass.old pass.new × IsOf pass.new world.now }
+{
+    let found = try_lock(world, pass, Lock::Types);
+    if found != 0 {
+        return found;
+    }
+    let Stored::Types(mut types) = slot_out(world, pass, Lock::Types) else {
+        return 1;
+    };
+    if let Some(number) = types.take_number() {
+        let other = split_off(world, pass, number);
+        take_in(world, pass, other);
+        types.free_number(number);
+    }
+    slot_in(world, pass, Lock::Types, Stored::Types(types));
+    unlock(world, pass, Lock::Types);
+    found
+}
+
+#[test]
+fn a_pass_splits_off_and_is_taken_in(rt: HostRuntime) -> Result<(), OpenFault> {
+    let (world, mut pass) = World::open(rt.alloc(), Limits::program())?;
+    assert_eq!(rt; split_and_join(&world, &mut pass), 0);
     Ok(())
 }
