@@ -1,12 +1,14 @@
 -- What each call on the table owes: the step is allowed whatever the table is, and tells what its play says.
-use Rattle.std.proofs.Common.{◌≡◌, ◌≢◌, ℕ, suc, true, false, eqb, List, [], ◌∷◌, get_or, refl, sym, ap, ◌∙◌, subst, ⊎_elim, arith}
+use Rattle.std.proofs.Common.{◌≡◌, ◌≢◌, ◌⊎◌, inl, inr, ℕ, suc, true, false, eqb, List, [], ◌∷◌, get_or, refl, sym, ap, ◌∙◌, subst, ⊎_elim, arith}
 use Rattle.std.specs.Prelude.{Some}
 use mathlib.Core.Option.{some, none}
+use mathlib.Core.List.{IsPrefix}
 use lib.ListN.{get_elem?}
 use prog.Atomic.{either}
 use Rattle.atomic_table.specs.Table.{Me, Act, keeps, takes, gives, step, stepped, carried_after, Valid, Allows, Splits, Joins}
 use Rattle.atomic_table.proofs.Lists.{exchanged, at_map, at_set}
 use Rattle.at_value.specs.declared.limits.Limits.{Limits}
+use Rattle.at_value.specs.declared.operation.Op as op
 use Rattle.at_model.specs.World.{World}
 use Rattle.at_model.specs.History.{replay}
 use Rattle.at_view.specs.declared.view.TypeLists.{TypeLists}
@@ -18,14 +20,14 @@ use Rattle.at_core.specs.declared.lock.Lock as lock
 use Rattle.at_core.specs.declared.lock.Lock.TheVariants as locks
 use Rattle.at_core.specs.declared.stored.Stored.{Stored}
 use Rattle.at_core.specs.Heads.{Shape, shape_of}
-use Rattle.at_core.specs.Locks.{lock_word, slot_of, hold_of, holds}
-use Rattle.at_core.specs.Reads.{kin_read, limit_read, join_read}
+use Rattle.at_core.specs.Locks.{lock_word, slot_of, hold_of, holds, IsUnchanged}
+use Rattle.at_core.specs.Reads.{kin_read, kept_read, limit_read, join_read}
 use Rattle.at_core.specs.Rule.{Slot, Board, Ghost, Holds, Base, IsLock, Agrees, words_of, heads_of, shape_under}
-use Rattle.at_core.specs.Steps.{Moment, taken, missed, given, lists_given, ValueAgrees, MayGive, MaySplit, parted, child, lists_parted, MayJoin, merged, lists_joined, copied_heads}
+use Rattle.at_core.specs.Steps.{Moment, hold_from, taken, missed, given, lists_given, ValueAgrees, MayGive, MaySplit, parted, child, lists_parted, MayJoin, merged, lists_joined, copied_heads}
 use Rattle.at_core.specs.Plays.{Took, Takes, Brought, Gives}
-use Rattle.at_core.proofs.Prefixes.{prefix_shorter}
+use Rattle.at_core.proofs.Prefixes.{prefix_self, prefix_trans, prefix_shorter}
 use Rattle.at_core.proofs.WordLemmas.{said}
-use Rattle.at_core.proofs.LockLemmas.{hold_taken, copy_taken}
+use Rattle.at_core.proofs.LockLemmas.{lock_cases, hold_taken, hold_beside, copy_taken, unchanged_self}
 use Rattle.at_core.proofs.Parts.{seen_begins}
 use Rattle.at_core.proofs.LivePasses.{alone_saw, found, younger, own_once}
 use Rattle.at_core.proofs.Moves.{take_moves, miss_moves, give_moves, split_moves, join_moves}
@@ -57,11 +59,24 @@ module _ (opened : World) (limits : Limits) where
         let Q : Limits × List _ × Shape → Type 0 = λ y. Agrees y.0 (replay opened y.1) g.lists y.2 l x in
         subst Q (λ i. (limit i, since i, shape_taken l i)) a
 
+    -- each lock that is held has kept what it protects
+    kept_so : (l k : lock.Lock) → (l ≡ k) ⊎ (l ≢ k) → holds l (taken k v now) ≡ true
+        → IsPrefix (hold_of l (taken k v now)).since g.history × IsUnchanged l (replay opened (hold_of l (taken k v now)).since) (replay opened g.history)
+    kept_so l k (inl same) held =
+        let since : g.history ≡ (hold_of l (taken k v now)).since = ap (λ y. y.since) (sym (subst (λ (j : lock.Lock). hold_of l (taken j v now) ≡ hold_from now) same (hold_taken l v now))) in
+        subst (λ (y : List op.Op). IsPrefix y g.history × IsUnchanged l (replay opened y) (replay opened g.history)) since (prefix_self g.history, unchanged_self l (replay opened g.history))
+    kept_so l k (inr other) held =
+        let was = hold_beside l k v now other in
+        let b = h.parts.kept l id (kept_read l v) (at_map (kept_read l) s.views id v at) (sym (ap (λ y. y.held) was) ∙ held) in
+        let begun = prefix_trans (hold_of l v).since v.history.seen g.history b.begun (seen_begins h.parts id v at) in
+        subst (λ (y : List op.Op). IsPrefix y g.history × IsUnchanged l (replay opened y) (replay opened g.history)) (ap (λ y. y.since) (sym was)) (begun, b.protects g.history begun (prefix_self g.history))
+
     pub took : (l : lock.Lock) (x : Stored) → Agrees limits (replay opened g.history) g.lists (shape_under (heads_of (words_of s.words)) l) l x → Took opened l v now x
     took l x a = record {
       later = seen_begins h.parts id v at;
       alone = λ alone. alone_saw h.parts id v at live alone;
       proper = h.parts.history.proper;
+      kept = λ k. kept_so k l (lock_cases k l);
       value = value_right l x a;
       numbers = h.parts.numbers.whole;
       born = h.parts.kin.below id (kin_read v) (at_map kin_read s.views id v at);

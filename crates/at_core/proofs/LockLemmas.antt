@@ -3,6 +3,7 @@ use Rattle.std.proofs.Common.{◌≡◌, ◌≢◌, ◌⊎◌, ℕ, Bool, false,
 use Rattle.std.specs.Prelude.{if◌then◌else◌}
 use mathlib.Core.Logic.{dite}
 use native.Mathlib.Decide.{ℕ_discrete}
+use Rattle.at_model.specs.World.{World}
 use Rattle.at_view.specs.declared.mark.Mark.{Mark}
 use Rattle.at_view.specs.declared.view.RowHold.{RowHold}
 use Rattle.at_view.specs.declared.view.RowCopy.{RowCopy}
@@ -11,7 +12,7 @@ use Rattle.at_view.specs.Views.{blank}
 use Rattle.at_view.specs.Words.{Words, updated, is_same, place}
 use Rattle.at_core.specs.declared.lock.Lock as lock
 use Rattle.at_core.specs.declared.lock.Lock.TheVariants as locks
-use Rattle.at_core.specs.Locks.{lock_word, slot_of, hold_at, hold_of, holds, copy_at}
+use Rattle.at_core.specs.Locks.{lock_word, slot_of, hold_at, hold_of, holds, copy_at, IsUnchanged}
 use Rattle.at_core.specs.Rule.{heads_of, types_words, row_words}
 use Rattle.at_core.specs.Steps.{Moment, marked, hold_from, taken, missed, let_go, given, parted, child, merged}
 use Rattle.at_core.proofs.WordLemmas.{updated_else}
@@ -130,3 +131,8 @@ holds_blank (locks.Row o) = refl
 pub holds_missed : (k l : lock.Lock) (v : View) (n : ℕ) → holds k (missed l v n) ≡ holds k v
 holds_missed locks.Types l v n = refl
 holds_missed (locks.Row o) l v n = refl
+
+-- what a lock protects is as it is
+pub unchanged_self : (l : lock.Lock) (w : World) → IsUnchanged l w w
+unchanged_self locks.Types w = (refl, refl)
+unchanged_self (locks.Row o) w = (refl, refl)

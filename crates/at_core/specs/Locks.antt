@@ -1,5 +1,5 @@
 -- The locks of the table: what a view knows of each, and what each protects.
-use Rattle.std.specs.Prelude.{ℕ, suc, ◌≡◌, ◌==◌, ◌≤◌, Bool, List, [], ◌∷◌, ◌++◌, length, slice_get, if◌then◌else◌, Contains}
+use Rattle.std.specs.Prelude.{ℕ, suc, ◌≡◌, ◌==◌, ◌≤◌, Bool, true, List, [], ◌∷◌, ◌++◌, length, slice_get, if◌then◌else◌, Contains}
 use mathlib.Core.List.{IsPrefix}
 use Rattle.at_value.specs.declared.operation.Op as op
 use Rattle.at_model.specs.World.{World}
@@ -56,6 +56,11 @@ IsUnchanged (locks.Row o) before now = (slice_get now.objects o ≡ slice_get be
 abbrev pub Protects : World → lock.Lock → List op.Op → List op.Op → Type 0
 Protects opened l prefix history =
     (point : List op.Op) → IsPrefix prefix point → IsPrefix point history → IsUnchanged l (replay opened prefix) (replay opened point)
+
+-- each lock that is held has kept what it protects: it is as it was when the pass took the lock, or as its own last write left it
+abbrev pub AreKept : World → View → Type 0
+AreKept opened v = (l : lock.Lock) → holds l v ≡ true
+    → IsPrefix (hold_of l v).since v.history.seen × IsUnchanged l (replay opened (hold_of l v).since) (replay opened v.history.seen)
 
 -- No write after so many, but those at the own places, has the object among its rows.
 abbrev pub AvoidsRow : World → ℕ → List ℕ → List op.Op → ℕ → Type 0

@@ -10,7 +10,7 @@ use Rattle.at_view.specs.Counts.{passes}
 use Rattle.at_view.specs.Words.{number_of}
 use Rattle.at_core.specs.declared.lock.Lock as lock
 use Rattle.at_core.specs.declared.stored.Stored.{Stored}
-use Rattle.at_core.specs.Locks.{lock_word, slot_of}
+use Rattle.at_core.specs.Locks.{lock_word, slot_of, AreKept}
 use Rattle.at_core.specs.Reads.{births_of}
 use Rattle.at_core.specs.Rule.{Slot, IsLock}
 use Rattle.at_core.specs.Steps.{Moment, taken, missed, given, ValueAgrees}
@@ -26,13 +26,14 @@ pub record IsWordOf (st : Step Slot) (l : lock.Lock) : Type 0 where
   pub is : st.word ≡ number_of (lock_word l)
 
 -- What a pass that took the lock learns of the moment: it comes after what it had seen, and is that where the pass is alone;
--- the value in the slot is right; and the births to come are above its own and those of the passes that were split off it or
--- taken in.
+-- the value in the slot is right; each lock that is held has kept what it protects; and the births to come are above its own and
+-- those of the passes that were split off it or taken in.
 pub record Took (opened : World) (l : lock.Lock) (v : View) (at : Moment) (x : Stored) : Type 0 where
   pub later : IsPrefix v.history.seen at.history
   pub alone : IsAlone v → at.history ≡ v.history.seen
   pub proper : IsProper opened at.history
   pub value : ValueAgrees opened l (taken l v at) at.lists x
+  pub kept : AreKept opened (taken l v at)
   pub numbers : length at.lists.numbers ≡ passes
   pub born : v.history.birth < at.lists.next_birth
   pub younger : (b : ℕ) → 0 < times b (v.who.children ++ births_of v.kept) → b < at.lists.next_birth

@@ -8,9 +8,11 @@ pub mod laws;
 pub mod lock;
 pub mod locking;
 mod open_world;
+mod pass;
 pub mod stored;
 #[cfg(test)]
 mod tests;
+mod waiting;
 pub mod world;
 
 pub use lock::Lock;

@@ -9,6 +9,7 @@ ghost use Rattle.at_core.specs.Runs.{opening_words, opening_lists, AreOpeningSlo
 ghost use Rattle.at_core.specs.declared.open_world.OpenFault.TheVariants as faults;
 
 use crate::stored::Stored;
+use crate::waiting::no_sleepers;
 use crate::world::{Board, Pass, World};
 use arrayvec::ArrayVec;
 use at_dict::Body;
@@ -95,6 +96,7 @@ impl World {
         }
         let words = first_words(alloc)?;
         let slots = first_slots(alloc, &limits)?;
+        let sleepers = no_sleepers(alloc)?;
         let Ok((table, seat)) = Board::new(alloc, &words, slots, &limits) else {
             return Err(OpenFault::NoMemory);
         };
@@ -103,7 +105,12 @@ impl World {
             number: 0,
             hand: ArrayVec::new(),
         };
-        Ok((World { table, limits }, pass))
+        let world = World {
+            table,
+            limits,
+            sleepers,
+        };
+        Ok((world, pass))
     }
 
     /// The limits that `open` was given.

@@ -1,5 +1,5 @@
 //! The shared table, and the passes that step on it.
-ghost use Rattle.std.specs.Prelude.{ℕ, ◌≡◌, ◌<◌, ◌≤◌, true, suc, map, is_some};
+ghost use Rattle.std.specs.Prelude.{ℕ, ◌≡◌, ◌<◌, ◌≤◌, true, suc, map, is_some, length};
 ghost use Rattle.at_value.specs.Widths.{objects};
 ghost use Rattle.at_view.specs.Counts.{passes};
 ghost use Rattle.at_view.specs.Words.{table_words};
@@ -15,6 +15,7 @@ use at_value::Limits;
 use at_view::View;
 use atomic_table::{Seat, Table, TableRule};
 use std::alloc::Global;
+use std::sync::atomic::AtomicBool;
 
 /// How many locks a pass may hold at once. Twenty sections of two rows each and the lock of the types are forty-one.
 pub const MOST_HELD: usize = 64;
@@ -40,8 +41,11 @@ pub(crate) type Board = Table<Option<Stored>, View, Limits, Law, Global>;
 pub struct World {
     pub(crate) table: Board,
     pub(crate) limits: Limits,
+    /// For each lock, in the order of their slots, whether a pass may sleep until it is given back.
+    pub(crate) sleepers: Vec<AtomicBool>,
     ghost sized: { (table.shared.table_id.words ≡ table_words) × (table.shared.table_id.slots ≡ suc objects) },
     ghost limited: { table.shared.key ≡ limits },
+    ghost flagged: { length sleepers.items ≡ suc objects },
 }
 
 /// A pass: what one thread steps with. Contracts see what it knows, its view.

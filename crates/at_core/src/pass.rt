@@ -1,0 +1,15 @@
+//! What a pass tells of itself.
+ghost use Rattle.std.specs.Prelude.{◌≡◌, ◌<◌};
+ghost use Rattle.at_view.specs.Counts.{passes};
+ghost use Rattle.at_core.specs.Passes.{view};
+
+use crate::world::Pass;
+
+impl Pass {
+    /// The number of the pass, below 64, which no other live pass of its world has.
+    pub fn number(&self) -> u8
+        ensures { (result ≡ (view self.now).who.number) × (result < passes) }
+    {
+        self.number
+    }
+}

@@ -1,0 +1,46 @@
+-- What splits and joins make of the views of passes.
+use Rattle.std.specs.Prelude.{ℕ, ◌≡◌, ◌<◌, ◌≤◌, false, Some, None}
+use mathlib.Core.List.{IsPrefix}
+use Rattle.at_types.specs.Tags.{times}
+use Rattle.at_view.specs.declared.view.View.{View}
+use Rattle.at_core.specs.declared.lock.Lock as lock
+use Rattle.at_core.specs.declared.lock.Lock.TheVariants as locks
+use Rattle.at_core.specs.Locks.{holds}
+use Rattle.at_core.specs.Steps.{given, parted, child, merged, next_number}
+use Rattle.at_lock.specs.Waits.{IsTaken}
+
+abbrev pub HoldsNone : View → Type 0
+HoldsNone v = (l : lock.Lock) → holds l v ≡ false
+
+-- Under the lock of the types, `held` being the view then, a number was free, and a new pass split off with it.
+pub record IsSplit (v w new : View) : Type 0 where
+  pub held : View
+  pub taken : IsTaken locks.Types v held
+  pub free : next_number held.types.lists.numbers ≡ Some new.who.number
+  pub after : w ≡ given locks.Types (parted held)
+  pub begins : new ≡ child held
+
+-- Under the lock of the types no number was free.
+pub record HasNoNumber (v w : View) : Type 0 where
+  pub held : View
+  pub taken : IsTaken locks.Types v held
+  pub free : next_number held.types.lists.numbers ≡ None
+  pub after : w ≡ given locks.Types held
+
+-- Under the lock of the types the other pass was taken in.
+pub record IsJoined (v other w : View) : Type 0 where
+  pub held : View
+  pub taken : IsTaken locks.Types v held
+  pub after : w ≡ given locks.Types (merged held other)
+
+-- What one pass has seen comes before what it has seen later, which is no less; it is the same pass.
+pub record HasSeenMore (v w : View) : Type 0 where
+  pub seen : IsPrefix v.history.seen w.history.seen
+  pub birth : w.history.birth ≡ v.history.birth
+  pub number : w.who.number ≡ v.who.number
+
+-- The pass may be taken in: it is a child, has no cache entry open and is offline.
+pub record MayEnd (v other : View) : Type 0 where
+  pub child : 0 < times other.history.birth v.who.children
+  pub closed : other.write.writing ≡ false
+  pub offline : other.tags.online ≡ false
