@@ -7,7 +7,9 @@ use Rattle.at_types.specs.Tags.{times}
 use Rattle.at_view.specs.declared.view.View.{View}
 use Rattle.at_core.specs.declared.lock.Lock as lock
 use Rattle.at_core.specs.declared.lock.Lock.TheVariants as locks
+use Rattle.at_core.specs.declared.world.Pass.{Pass}
 use Rattle.at_core.specs.Locks.{slot_of, holds}
+use Rattle.at_core.specs.Passes.{view, hand}
 use Rattle.at_core.specs.Reads.{slot_number, in_hand}
 use Rattle.at_core.specs.Rule.{IsLock}
 use Rattle.at_core.proofs.Counts.{weight_same, times_cons}
@@ -32,3 +34,7 @@ nothing_in_hand v (s ∷ ss) within right free =
     let here : is_some (in_hand s.0 (s ∷ ss)) ≡ true = ap (λ (b : Bool). is_some (if b then Some s.1 else in_hand s.0 ss)) (eq-eqb s.0 s.0 refl) in
     let none_here : is_some (in_hand s.0 (s ∷ ss)) ≡ false = ap (λ (k : ℕ). is_some (in_hand k (s ∷ ss))) (sym h.slot) ∙ (right h.l h.is ∙ free h.l) in
     absurd (true≢false (sym here ∙ none_here))
+
+-- so it is with a pass
+pub empty_hand : (p : Pass) → ((l : lock.Lock) → holds l (view p) ≡ false) → hand p ≡ []
+empty_hand p free = nothing_in_hand (view p) (hand p) p.within p.right free

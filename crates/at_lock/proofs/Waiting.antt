@@ -1,0 +1,37 @@
+-- Waiting for a lock leaves but marks.
+use Rattle.std.proofs.Common.{◌≡◌, ℕ, suc, Bool, false, List, [], ◌∷◌, ◌++◌, refl, ap, ◌∙◌}
+use Rattle.std.specs.List.{fold}
+use Rattle.at_view.specs.declared.view.View.{View}
+use Rattle.at_core.specs.declared.lock.Lock as lock
+use Rattle.at_core.specs.declared.world.Pass.{Pass}
+use Rattle.at_core.specs.Locks.{holds}
+use Rattle.at_core.specs.Passes.{IsSame}
+use Rattle.at_core.specs.Steps.{missed}
+use Rattle.at_core.proofs.LockLemmas.{holds_missed}
+use Rattle.at_lock.specs.Waits.{waited}
+
+-- one more wait
+pub waited_more : (l : lock.Lock) (v : View) (holders : List ℕ) (holder : ℕ) → waited l v (holders ++ holder ∷ []) ≡ missed l (waited l v holders) (suc holder)
+waited_more l v [] holder = refl
+waited_more l v (h ∷ holders) holder = waited_more l (missed l v (suc h)) holders holder
+
+pub holds_waited : (k l : lock.Lock) (v : View) (holders : List ℕ) → holds k (waited l v holders) ≡ holds k v
+holds_waited k l v [] = refl
+holds_waited k l v (h ∷ holders) = holds_waited k l (missed l v (suc h)) holders ∙ holds_missed k l v (suc h)
+
+-- the history that is seen, and who the pass is
+pub history_waited : (l : lock.Lock) (v : View) (holders : List ℕ) → (waited l v holders).history ≡ v.history
+history_waited l v [] = refl
+history_waited l v (h ∷ holders) = history_waited l (missed l v (suc h)) holders
+
+pub who_waited : (l : lock.Lock) (v : View) (holders : List ℕ) → (waited l v holders).who ≡ v.who
+who_waited l v [] = refl
+who_waited l v (h ∷ holders) = who_waited l (missed l v (suc h)) holders
+
+-- The same pass
+
+pub same_pass : (p : Pass) → IsSame p p
+same_pass p = record { table = refl; seat = refl; number = refl }
+
+pub same_then : (p q r : Pass) → IsSame p q → IsSame q r → IsSame p r
+same_then p q r a b = record { table = b.table ∙ a.table; seat = b.seat ∙ a.seat; number = b.number ∙ a.number }

@@ -1,0 +1,60 @@
+use Rattle.std.proofs.Common.{◌≡◌, ℕ, suc, ◌<◌, List, [], ◌∷◌, ◌++◌, false, length, refl, sym, ap, ◌∙◌, subst, arith}
+use Rattle.at_view.specs.declared.view.View.{View}
+use Rattle.at_core.specs.Locks.{holds}
+use Rattle.at_core.specs.Passes.{view, hand}
+use Rattle.at_core.specs.Steps.{missed}
+use Rattle.at_core.proofs.HandOf.{empty_hand}
+use Rattle.at_lock.specs.Waits.{IsTakenAtOnce}
+use Rattle.at_lock.proofs.Waiting.{waited_more, holds_waited, same_pass, same_then}
+use Rattle.at_lock.proofs.taking.take.Goals as goal
+
+pub loop-init : goal.loop-init
+loop-init g c = (same_pass c.args.pass.now, c.requires.of, (λ k ne. refl), refl, [], refl)
+
+pub try_take-requires-clause-of : goal.try_take-requires-clause-of
+try_take-requires-clause-of g c = c.loop.invariant.1
+
+pub try_take-requires-clause-out : goal.try_take-requires-clause-out
+try_take-requires-clause-out g c =
+    let so = c.loop.invariant in
+    ap (holds c.args.lock) so.5 ∙ (holds_waited c.args.lock c.args.lock (view c.args.pass.now) so.4 ∙ c.requires.out c.args.lock)
+
+pub try_take-requires-clause-room : goal.try_take-requires-clause-room
+try_take-requires-clause-room g c =
+    let empty = ap length (empty_hand c.args.pass.now c.requires.out) in
+    let long = c.loop.invariant.3 in
+    omega arith
+
+pub returns-in-Got-clause-same : goal.returns-in-Got-clause-same
+returns-in-Got-clause-same g c = (same_then c.args.pass.now c.loop.pass c.try_take.new.pass c.loop.invariant.0 c.try_take.ensures.same.0, c.try_take.ensures.same.1)
+
+pub returns-in-Got-clause-taken : goal.returns-in-Got-clause-taken
+returns-in-Got-clause-taken g c =
+    let so = c.loop.invariant in
+    let got = (c.try_take.ensures.got c.in-Got.is).0 in
+    record { holders = so.4; last = subst (λ (v : View). IsTakenAtOnce c.args.lock v (view c.try_take.new.pass)) so.5 got }
+
+pub returns-in-Got-clause-elsewhere : goal.returns-in-Got-clause-elsewhere
+returns-in-Got-clause-elsewhere g c k ne = c.try_take.ensures.elsewhere k ne ∙ c.loop.invariant.2 k ne
+
+pub wait_for-requires : goal.wait_for-requires
+wait_for-requires g c =
+    let found = (c.try_take.ensures.held c.in-Held.holder c.in-Held.is).1 in
+    let is = found.is in
+    let small = found.small in
+    omega arith
+
+pub loop-preserved : goal.loop-preserved
+loop-preserved g c =
+    let so = c.loop.invariant in
+    let l = c.args.lock in
+    let holder = c.in-Held.holder in
+    let v = view c.args.pass.now in
+    let held = (c.try_take.ensures.held holder c.in-Held.is).0 in (
+      same_then c.args.pass.now c.loop.pass c.try_take.new.pass so.0 c.try_take.ensures.same.0,
+      c.try_take.ensures.same.1,
+      (λ k ne. c.try_take.ensures.elsewhere k ne ∙ so.2 k ne),
+      c.try_take.ensures.as_long holder c.in-Held.is ∙ so.3,
+      so.4 ++ holder ∷ [],
+      held ∙ (ap (λ (w : View). missed l w (suc holder)) so.5 ∙ sym (waited_more l v so.4 holder)),
+    )
