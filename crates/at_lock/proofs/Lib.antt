@@ -1,2 +1,3 @@
 pub mod Now
 pub mod Waiting
+pub mod Families

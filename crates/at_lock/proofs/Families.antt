@@ -1,0 +1,105 @@
+-- What a pass has while it splits or joins, and after.
+use Rattle.std.proofs.Common.{◌≡◌, ◌≢◌, Box, Global, ℕ, ◌<◌, ◌≤◌, Bool, true, false, List, length, true≢false, refl, sym, ap, ◌∙◌, subst, arith}
+use Rattle.std.specs.Prelude.{nat_lt, Some, unwrap_or, if◌then◌else◌}
+use Rattle.std.proofs.lemmas.Bool.Decides.{nat_tests}
+use mathlib.Core.List.{IsPrefix}
+use Rattle.at_value.specs.declared.operation.Op as op
+use Rattle.at_types.specs.declared.types.Types as types
+use Rattle.at_view.specs.declared.view.HistoryView.{HistoryView}
+use Rattle.at_view.specs.declared.view.View.{View}
+use Rattle.at_view.specs.Views.{longer}
+use Rattle.at_core.specs.declared.lock.Lock as lock
+use Rattle.at_core.specs.declared.lock.Lock.TheVariants as locks
+use Rattle.at_core.specs.declared.stored.Stored.TheVariants as stored
+use Rattle.at_core.specs.Locks.{holds}
+use Rattle.at_core.specs.Plays.{Brought}
+use Rattle.at_core.specs.Steps.{given, parted, child, merged, next_number, HoldsTypesAlone}
+use Rattle.at_core.proofs.LockLemmas.{hold_taken, hold_beside, hold_given, hold_kept, holds_parted, holds_merged}
+use Rattle.at_lock.specs.Holding.{IsRight}
+use Rattle.at_lock.specs.Waits.{IsTaken, waited}
+use Rattle.at_lock.specs.Families.{HoldsNone, HasSeenMore}
+use Rattle.at_lock.proofs.Waiting.{holds_waited, history_waited, who_waited}
+
+types_apart : (o : ℕ) → locks.Row o ≢ locks.Types
+types_apart o e = absurd (apart_types o e)
+  where
+    is_types : lock.Lock → Bool
+    is_types locks.Types = true
+    is_types (locks.Row p) = false
+    apart_types : (o : ℕ) → locks.Row o ≡ locks.Types → ⊥
+    apart_types o e = true≢false (sym (ap is_types e))
+
+-- a pass that held no lock and took that of the types holds it alone
+pub alone : (v held : View) → HoldsNone v → IsTaken locks.Types v held → HoldsTypesAlone held
+alone v held none t =
+    let w = waited locks.Types v t.holders in
+    let e = t.last.after in
+    record {
+      types = ap (holds locks.Types) e ∙ ap (λ y. y.held) (hold_taken locks.Types w t.last.at);
+      rows = λ o. ap (holds (locks.Row o)) e ∙ (ap (λ y. y.held) (hold_beside (locks.Row o) locks.Types w t.last.at (types_apart o)) ∙ (holds_waited (locks.Row o) locks.Types v t.holders ∙ none (locks.Row o)));
+    }
+
+pub alone_parted : (v : View) → HoldsTypesAlone v → HoldsTypesAlone (parted v)
+alone_parted v h = record { types = holds_parted locks.Types v ∙ h.types; rows = λ o. holds_parted (locks.Row o) v ∙ h.rows o }
+
+pub alone_merged : (v w : View) → HoldsTypesAlone v → HoldsTypesAlone (merged v w)
+alone_merged v w h = record { types = holds_merged locks.Types v w ∙ h.types; rows = λ o. holds_merged (locks.Row o) v w ∙ h.rows o }
+
+-- and holds none once it gives it back
+pub none_given : (v : View) → HoldsTypesAlone v → HoldsNone (given locks.Types v)
+none_given v h locks.Types = ap (λ y. y.held) (hold_given locks.Types v)
+none_given v h (locks.Row o) = ap (λ y. y.held) (hold_kept (locks.Row o) locks.Types v (types_apart o)) ∙ h.rows o
+
+-- What it has seen
+
+pub more_taken : (v held : View) → IsTaken locks.Types v held → HasSeenMore v held × (held.history.own ≡ v.history.own)
+more_taken v held t =
+    let w = waited locks.Types v t.holders in
+    let e = t.last.after in
+    let h = history_waited locks.Types v t.holders in (
+      record {
+        seen = subst (λ (y : List op.Op). IsPrefix v.history.seen y) (sym (ap (λ u. u.history.seen) e)) (subst (λ (y : HistoryView). IsPrefix y.seen t.last.at.history) h t.last.took.later);
+        birth = ap (λ u. u.history.birth) e ∙ ap (λ y. y.birth) h;
+        number = ap (λ u. u.who.number) e ∙ ap (λ y. y.number) (who_waited locks.Types v t.holders);
+      },
+      ap (λ u. u.history.own) e ∙ ap (λ y. y.own) h,
+    )
+
+longer_first : (xs ys : List op.Op) → length xs ≤ length (longer xs ys)
+longer_first xs ys = by_test (nat_lt (length xs) (length ys)) refl
+  where
+    by_test : (t : Bool) → nat_lt (length xs) (length ys) ≡ t → length xs ≤ length (longer xs ys)
+    by_test true e =
+        let lt : length xs < length ys = grind (arith, nat_tests, e) in
+        let is : length (longer xs ys) ≡ length ys = ap (λ (t : Bool). length (if t then ys else xs)) e in
+        omega arith
+    by_test false e =
+        let is : length (longer xs ys) ≡ length xs = ap (λ (t : Bool). length (if t then ys else xs)) e in
+        omega arith
+
+longer_second : (xs ys : List op.Op) → length ys ≤ length (longer xs ys)
+longer_second xs ys = by_test (nat_lt (length xs) (length ys)) refl
+  where
+    by_test : (t : Bool) → nat_lt (length xs) (length ys) ≡ t → length ys ≤ length (longer xs ys)
+    by_test true e =
+        let is : length (longer xs ys) ≡ length ys = ap (λ (t : Bool). length (if t then ys else xs)) e in
+        omega arith
+    by_test false e =
+        let le : length ys ≤ length xs = grind (arith, nat_tests, e) in
+        let is : length (longer xs ys) ≡ length xs = ap (λ (t : Bool). length (if t then ys else xs)) e in
+        omega arith
+
+-- what either of two passes had seen begins what the one that took in the other has
+pub first_seen : (v other : View) → Brought (merged v other) → IsPrefix v.history.seen (merged v other).history.seen
+first_seen v other b = b.first (longer_first v.history.seen other.history.seen)
+
+pub second_seen : (v other : View) → Brought (merged v other) → IsPrefix other.history.seen (merged v other).history.seen
+second_seen v other b = b.second (longer_second v.history.seen other.history.seen)
+
+-- the free numbers of the types
+pub numbers_of : (v : View) (box : Box types.Types Global) → IsRight v locks.Types (stored.Types box) → box.value.numbers ≡ v.types.lists.numbers
+numbers_of v box right = let same : box ≡ right.0 = cc (right.1) in ap (λ (b : Box types.Types Global). b.value.numbers) same ∙ right.2.numbers
+
+-- the new pass has the least free number
+pub least_number : (v new : View) (number : ℕ) → next_number v.types.lists.numbers ≡ Some number → new ≡ child v → next_number v.types.lists.numbers ≡ Some new.who.number
+least_number v new number free is = free ∙ ap (λ (n : ℕ). Some n) (sym (ap (λ w. w.who.number) is ∙ ap (λ o. unwrap_or o 0) free))

@@ -1,0 +1,82 @@
+use Rattle.std.proofs.Common.{◌≡◌, ℕ, ◌∷◌, Bool, List, refl, sym, ap, ◌∙◌, subst}
+use Rattle.std.specs.Prelude.{Some, None, position}
+use Rattle.at_view.specs.declared.view.View.{View}
+use Rattle.at_core.specs.declared.lock.Lock.TheVariants as locks
+use Rattle.at_core.specs.Locks.{holds}
+use Rattle.at_core.specs.Passes.{view}
+use Rattle.at_core.specs.Steps.{given, parted, child, next_number, MaySplit, HoldsTypesAlone}
+use Rattle.at_core.proofs.HandOf.{empty_hand}
+use Rattle.at_core.proofs.LockLemmas.{holds_child}
+use Rattle.at_lock.specs.Families.{HoldsNone, HasSeenMore}
+use Rattle.at_lock.specs.Waits.{IsTaken}
+use Rattle.at_lock.proofs.Families.{alone, alone_parted, none_given, more_taken, numbers_of, least_number}
+use Rattle.at_lock.proofs.family.split.Goals as goal
+
+pub returns-in_default-clause-out : goal.returns-in_default-clause-out
+returns-in_default-clause-out g c =
+    let held = view c.take.new.pass in
+    let same : view c.put_back.new.pass ≡ given locks.Types held = c.put_back.ensures.given ∙ ap (given locks.Types) c.types_out-types.ensures.same.2 in
+    subst HoldsNone (sym same) (none_given held (alone (view c.args.pass.now) held c.requires.out c.take.ensures.taken))
+
+pub returns-in_default-clause-seen : goal.returns-in_default-clause-seen
+returns-in_default-clause-seen g c =
+    let held = view c.take.new.pass in
+    let v = view c.args.pass.now in
+    let same : view c.put_back.new.pass ≡ given locks.Types held = c.put_back.ensures.given ∙ ap (given locks.Types) c.types_out-types.ensures.same.2 in
+    let more = more_taken v held c.take.ensures.taken in
+    subst (λ (w : View). HasSeenMore v w × (w.history.own ≡ v.history.own)) (sym same) (record { seen = more.0.seen; birth = more.0.birth; number = more.0.number }, more.1)
+
+pub split_off-new-requires-clause-may : goal.split_off-new-requires-clause-may
+split_off-new-requires-clause-may g c =
+    let held = view c.take.new.pass in
+    let same = c.types_out-types.ensures.same.2 in
+    let types = c.types_out-types.result in
+    let numbers = numbers_of (view c.types_out-types.new.pass) types c.types_out-types.ensures.right in
+    let least : position (λ free. free) types.value.numbers ≡ Some c.in-Some.number = ap (λ t. position (λ free. free) t.numbers) (sym c.deref_mut.ensures.value) ∙ (sym c.take_number.ensures.least ∙ c.in-Some.is) in
+    (record {
+      alone = subst HoldsTypesAlone (sym same) (alone (view c.args.pass.now) held c.requires.out c.take.ensures.taken);
+      free = ap (λ (ns : List Bool). next_number ns) (sym numbers) ∙ least;
+    }, c.in-Some.ensures.taken.0)
+
+pub put_back-requires-2-clause-out : goal.put_back-requires-2-clause-out
+put_back-requires-2-clause-out g c =
+    let held = view c.take.new.pass in
+    let same : view c.split_off-new.new.pass ≡ parted held = c.split_off-new.ensures.parted ∙ ap parted c.types_out-types.ensures.same.2 in
+    record {
+      held = ap (holds locks.Types) same ∙ (alone_parted held (alone (view c.args.pass.now) held c.requires.out c.take.ensures.taken)).types;
+      out = c.split_off-new.ensures.same.2 locks.Types ∙ c.types_out-types.ensures.out.out;
+    }
+
+pub returns-clause-out : goal.returns-clause-out
+returns-clause-out g c =
+    let held = view c.take.new.pass in
+    let same : view c.put_back-2.new.pass ≡ given locks.Types (parted held) = c.put_back-2.ensures.given ∙ ap (given locks.Types) (c.split_off-new.ensures.parted ∙ ap parted c.types_out-types.ensures.same.2) in
+    subst HoldsNone (sym same) (none_given (parted held) (alone_parted held (alone (view c.args.pass.now) held c.requires.out c.take.ensures.taken)))
+
+pub returns-clause-ok : goal.returns-clause-ok
+returns-clause-ok g c =
+    let held = view c.take.new.pass in
+    let same = c.types_out-types.ensures.same.2 in
+    let types = c.types_out-types.result in
+    let numbers = numbers_of (view c.types_out-types.new.pass) types c.types_out-types.ensures.right in
+    let least : position (λ free. free) types.value.numbers ≡ Some c.in-Some.number = ap (λ t. position (λ free. free) t.numbers) (sym c.deref_mut.ensures.value) ∙ (sym c.take_number.ensures.least ∙ c.in-Some.is) in
+    let free : next_number held.types.lists.numbers ≡ Some c.in-Some.number = ap (λ (v : View). next_number v.types.lists.numbers) (sym same) ∙ (ap (λ (ns : List Bool). next_number ns) (sym numbers) ∙ least) in
+    let begins : view c.split_off-new.result ≡ child held = c.split_off-new.ensures.new.1 ∙ ap child same in (
+      c.split_off-new.ensures.new.0,
+      empty_hand c.split_off-new.result (λ l. ap (holds l) begins ∙ holds_child l held),
+      record {
+        held = held;
+        taken = c.take.ensures.taken;
+        free = least_number held (view c.split_off-new.result) c.in-Some.number free begins;
+        after = c.put_back-2.ensures.given ∙ ap (given locks.Types) (c.split_off-new.ensures.parted ∙ ap parted same);
+        begins = begins;
+      },
+    )
+
+pub returns-clause-seen : goal.returns-clause-seen
+returns-clause-seen g c =
+    let held = view c.take.new.pass in
+    let v = view c.args.pass.now in
+    let same : view c.put_back-2.new.pass ≡ given locks.Types (parted held) = c.put_back-2.ensures.given ∙ ap (given locks.Types) (c.split_off-new.ensures.parted ∙ ap parted c.types_out-types.ensures.same.2) in
+    let more = more_taken v held c.take.ensures.taken in
+    subst (λ (w : View). HasSeenMore v w × (w.history.own ≡ v.history.own)) (sym same) (record { seen = more.0.seen; birth = more.0.birth; number = more.0.number }, more.1)
