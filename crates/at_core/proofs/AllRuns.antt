@@ -5,15 +5,19 @@ use mathlib.Core.Option.{some}
 use lib.ListN.{get_elem?}
 use Rattle.at_value.specs.declared.limits.Limits.{Limits}
 use Rattle.at_model.specs.World.{World}
+use Rattle.at_view.specs.declared.view.View.{View}
 use Rattle.at_view.specs.Views.{blank}
+use Rattle.at_view.specs.Words.{global_sequence}
 use Rattle.at_core.specs.declared.lock.Lock as lock
 use Rattle.at_core.specs.Locks.{slot_of, holds}
-use Rattle.at_core.specs.Rule.{Slot}
-use Rattle.at_core.specs.Steps.{taken, missed, given, parted, child, merged}
-use Rattle.at_core.specs.Runs.{Core, Event, lock_take, lock_miss, lock_give, slot_out, slot_in, split, join, moment_of, without_hand, Takes, Misses, Gives, Exchanges, Splits, Joins, Goes, CoreHolds, EveryRunHolds}
+use Rattle.at_core.specs.Rule.{Slot, IsLock}
+use Rattle.at_core.specs.Steps.{taken, missed, given, parted, child, merged, global_loaded, gone_online, gone_offline}
+use Rattle.at_core.specs.Runs.{Core, Event, lock_take, lock_miss, lock_give, slot_out, slot_in, split, join, global_load, go_online, go_offline, words_at, moment_of, without_hand, Takes, Misses, Gives, Exchanges, Splits, Joins, LoadsGlobal, GoesOnline, GoesOffline, Goes, HandsAreRight, CoreHolds, EveryRunHolds}
 use Rattle.at_core.proofs.Lists.{each_set}
 use Rattle.at_core.proofs.LockLemmas.{hold_taken, hold_beside, hold_given, hold_kept, holds_parted, holds_child, holds_merged, holds_blank, holds_missed}
 use Rattle.at_core.proofs.Hands.{hands_changed, hands_exchanged, at_end, without_here, without_else}
+use Rattle.at_core.proofs.LivePasses.{number_small}
+use Rattle.at_core.proofs.QuietSteps.{IsQuiet, holds_quiet, load_quiet, online_quiet, offline_quiet, load_moves, own_moves}
 use Rattle.at_core.proofs.Moves.{take_moves, miss_moves, give_moves, split_moves, join_moves}
 
 same_length : {A : Type 0} (xs : List A) (i : ℕ) (x : A) → length (set xs i x) ≡ length xs
@@ -76,6 +80,39 @@ module _ (opened : World) (limits : Limits) where
         (h.hands_are other t.joined k t.ends.there is ∙ (t.asked.lockless k ∙ sym (holds_blank k))) j u e;
   })
 
+  -- a step on a sequence leaves all hands
+  quiet_hands : (id : ℕ) (a : Core) (v w : View) → HandsAreRight a → get_elem? a.table.views id ≡ some v → IsQuiet v w
+      → (j : ℕ) (u : View) (k : lock.Lock) → get_elem? (set a.table.views id w) j ≡ some u → IsLock k → is_some (a.hands j (slot_of k)) ≡ holds k u
+  quiet_hands id a v w right at q j u k e is = each_set (λ i x. is_some (a.hands i (slot_of k)) ≡ holds k x) a.table.views id w
+      (λ i x e'. right i x k e' is) (right id v k at is ∙ sym (holds_quiet v w q k)) j u e
+
+  loads_global_keep : (id : ℕ) (a b : Core) → CoreHolds opened limits a → LoadsGlobal id a b → CoreHolds opened limits b
+  loads_global_keep id a b h t =
+      let w = global_loaded t.view (words_at a global_sequence) in
+      let q = load_quiet t.view (words_at a global_sequence) in
+      landed _ b t.after (record {
+        table_holds = load_moves opened limits a.table a.ghost h.table_holds id t.view t.makes.there t.makes.live [] w (words_at a global_sequence) q refl;
+        hands_are = quiet_hands id a t.view w h.hands_are t.makes.there q;
+      })
+
+  goes_online_keep : (id : ℕ) (a b : Core) → CoreHolds opened limits a → GoesOnline id a b → CoreHolds opened limits b
+  goes_online_keep id a b h t =
+      let small = number_small h.table_holds.parts id t.view t.makes.there t.makes.live in
+      let w = gone_online t.view in
+      landed _ b t.after (record {
+        table_holds = own_moves opened limits a.table a.ghost h.table_holds id t.view t.makes.there t.makes.live [] w t.view.who.number t.view.tags.global small (online_quiet t.view);
+        hands_are = quiet_hands id a t.view w h.hands_are t.makes.there (online_quiet t.view);
+      })
+
+  goes_offline_keep : (id : ℕ) (a b : Core) → CoreHolds opened limits a → GoesOffline id a b → CoreHolds opened limits b
+  goes_offline_keep id a b h t =
+      let small = number_small h.table_holds.parts id t.view t.makes.there t.makes.live in
+      let w = gone_offline t.view in
+      landed _ b t.after (record {
+        table_holds = own_moves opened limits a.table a.ghost h.table_holds id t.view t.makes.there t.makes.live [] w t.view.who.number 0 small (offline_quiet t.view);
+        hands_are = quiet_hands id a t.view w h.hands_are t.makes.there (offline_quiet t.view);
+      })
+
   goes_keeps : (event : Event) (a b : Core) → CoreHolds opened limits a → Goes opened event a b → CoreHolds opened limits b
   goes_keeps (lock_take id l) a b h t = takes_keep id l a b h t
   goes_keeps (lock_miss id l) a b h t = misses_keep id l a b h t
@@ -84,6 +121,9 @@ module _ (opened : World) (limits : Limits) where
   goes_keeps (slot_in id l x) a b h t = exchanges_keep id l None (Some x) a b h t
   goes_keeps (split id) a b h t = splits_keep id a b h t
   goes_keeps (join id other) a b h t = joins_keep id other a b h t
+  goes_keeps (global_load id) a b h t = loads_global_keep id a b h t
+  goes_keeps (go_online id) a b h t = goes_online_keep id a b h t
+  goes_keeps (go_offline id) a b h t = goes_offline_keep id a b h t
 
 pub every_run_holds : EveryRunHolds
 every_run_holds opened limits [] a b h t = subst (CoreHolds opened limits) (sym t) h

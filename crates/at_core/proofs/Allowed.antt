@@ -1,5 +1,5 @@
 -- What each call on the table owes: the step is allowed whatever the table is, and tells what its play says.
-use Rattle.std.proofs.Common.{◌≡◌, ◌≢◌, ◌⊎◌, inl, inr, ℕ, suc, true, false, eqb, List, [], ◌∷◌, get_or, refl, sym, ap, ◌∙◌, subst, ⊎_elim, arith}
+use Rattle.std.proofs.Common.{◌≡◌, ◌≢◌, ◌⊎◌, inl, inr, ℕ, suc, ◌<◌, true, false, eqb, List, [], ◌∷◌, get_or, refl, sym, ap, ◌∙◌, subst, ⊎_elim, arith}
 use Rattle.std.specs.Prelude.{Some}
 use mathlib.Core.Option.{some, none}
 use mathlib.Core.List.{IsPrefix}
@@ -13,8 +13,9 @@ use Rattle.at_model.specs.World.{World}
 use Rattle.at_model.specs.History.{replay}
 use Rattle.at_view.specs.declared.view.TypeLists.{TypeLists}
 use Rattle.at_view.specs.declared.view.View.{View}
+use Rattle.at_view.specs.Counts.{passes}
 use Rattle.at_view.specs.Views.{blank}
-use Rattle.at_view.specs.Words.{family, first_index, number_of}
+use Rattle.at_view.specs.Words.{family, first_index, number_of, global_sequence, own_sequence}
 use Rattle.at_view.proofs.WordLaws.{apart}
 use Rattle.at_core.specs.declared.lock.Lock as lock
 use Rattle.at_core.specs.declared.lock.Lock.TheVariants as locks
@@ -23,13 +24,14 @@ use Rattle.at_core.specs.Heads.{Shape, shape_of}
 use Rattle.at_core.specs.Locks.{lock_word, slot_of, hold_of, holds, IsUnchanged}
 use Rattle.at_core.specs.Reads.{kin_read, kept_read, limit_read, join_read}
 use Rattle.at_core.specs.Rule.{Slot, Board, Ghost, Holds, Base, IsLock, Agrees, words_of, heads_of, shape_under}
-use Rattle.at_core.specs.Steps.{Moment, hold_from, taken, missed, given, lists_given, ValueAgrees, MayGive, MaySplit, parted, child, lists_parted, MayJoin, merged, lists_joined, copied_heads}
-use Rattle.at_core.specs.Plays.{Took, Takes, Brought, Gives}
+use Rattle.at_core.specs.Steps.{Moment, hold_from, taken, missed, given, lists_given, ValueAgrees, MayGive, MaySplit, parted, child, lists_parted, MayJoin, merged, lists_joined, global_loaded, gone_online, gone_offline, copied_heads}
+use Rattle.at_core.specs.Plays.{Took, Takes, Brought, Gives, LoadsGlobal, GoesOnline, GoesOffline}
 use Rattle.at_core.proofs.Prefixes.{prefix_self, prefix_trans, prefix_shorter}
 use Rattle.at_core.proofs.WordLemmas.{said}
 use Rattle.at_core.proofs.LockLemmas.{lock_cases, hold_taken, hold_beside, copy_taken, unchanged_self}
 use Rattle.at_core.proofs.Parts.{seen_begins}
 use Rattle.at_core.proofs.LivePasses.{alone_saw, found, younger, own_once}
+use Rattle.at_core.proofs.QuietSteps.{load_quiet, online_quiet, offline_quiet, load_moves, own_moves}
 use Rattle.at_core.proofs.Moves.{take_moves, miss_moves, give_moves, split_moves, join_moves}
 
 word_one : (l k : lock.Lock) → lock_word l ≡ lock_word k → l ≡ k
@@ -140,6 +142,40 @@ module _ (opened : World) (limits : Limits) where
     λ k k_is.
         let same : l ≡ k = lock_one l k is k_is.there k_is.is in
         (refl, ap (λ (j : lock.Lock). (given j v, others)) same, brought s b.ghost b.holds id v at live),
+  )
+
+  -- the global sequence is loaded
+  pub loads_global : (slots id : ℕ) (me : Me Slot View) → me.0.who.live ≡ true
+      → Allows (Base opened limits) slots id me (number_of global_sequence) (λ n. n) (LoadsGlobal (step slots (number_of global_sequence) 0 0 none) me)
+  loads_global slots id me live s b deep at small =
+      let n : ℕ = get_or s.words (number_of global_sequence) 0 in
+      let word : words_of s.words global_sequence ≡ n = said s.words global_sequence refl in (
+        global_loaded me.0 n,
+        keeps,
+        tt,
+        record { ghost = b.ghost; holds = load_moves opened limits s b.ghost b.holds id me.0 at live me.1 (global_loaded me.0 n) n (load_quiet me.0 n) (sym word) },
+        λ _. (refl, subst (λ (k : ℕ). 0 < k) word b.holds.parts.sequence),
+      )
+
+  -- a pass goes online, or offline
+  pub turns_online : (slots id : ℕ) (me : Me Slot View) → me.0.who.live ≡ true → me.0.who.number < passes
+      → Allows (Base opened limits) slots id me (number_of (own_sequence me.0.who.number)) (λ _. me.0.tags.global) (λ _. GoesOnline (step slots (number_of (own_sequence me.0.who.number)) me.0.tags.global 0 none) me 0)
+  turns_online slots id me live room s b deep at small = (
+    gone_online me.0,
+    keeps,
+    tt,
+    record { ghost = b.ghost; holds = own_moves opened limits s b.ghost b.holds id me.0 at live me.1 (gone_online me.0) me.0.who.number me.0.tags.global room (online_quiet me.0) },
+    λ _. refl,
+  )
+
+  pub turns_offline : (slots id : ℕ) (me : Me Slot View) → me.0.who.live ≡ true → me.0.who.number < passes
+      → Allows (Base opened limits) slots id me (number_of (own_sequence me.0.who.number)) (λ _. 0) (λ _. GoesOffline (step slots (number_of (own_sequence me.0.who.number)) 0 0 none) me 0)
+  turns_offline slots id me live room s b deep at small = (
+    gone_offline me.0,
+    keeps,
+    tt,
+    record { ghost = b.ghost; holds = own_moves opened limits s b.ghost b.holds id me.0 at live me.1 (gone_offline me.0) me.0.who.number 0 room (offline_quiet me.0) },
+    λ _. refl,
   )
 
   -- a pass splits off

@@ -21,7 +21,7 @@ use Rattle.at_core.specs.Steps.{MayGive, given, lists_given, copied_heads}
 use Rattle.at_core.proofs.Lists.{each_set}
 use Rattle.at_core.proofs.Prefixes.{prefix_self, prefix_trans}
 use Rattle.at_core.proofs.WordLemmas.{updated_here}
-use Rattle.at_core.proofs.LockLemmas.{lock_cases, slot_apart, other_word, same_place, same_heads, same_types, same_row, hold_given, hold_kept}
+use Rattle.at_core.proofs.LockLemmas.{lock_cases, slot_apart, other_word, same_place, same_heads, same_global, same_types, same_row, hold_given, hold_kept}
 use Rattle.at_core.proofs.Parts.{left_alone, changed, lock_freed, seen_begins, spent_set}
 
 -- what a list has at an index, by the two ways to read it
@@ -179,6 +179,7 @@ module _ (opened : World) (limits : Limits) (words : Words) (homes : Homes) (vie
           numbers = left_alone number_read (NumberRule g.lists.numbers) views id v w at refl p.numbers;
           slots = slots_after;
           rows_are = subst RowsAre (sym (same_heads words l 0)) p.rows_are;
+          sequence = subst (λ (n : ℕ). 0 < n) (sym (same_global words l 0)) p.sequence;
           kept = kept_after;
           types = subst (λ x. TypesRule g.lists x (map types_read views_after)) (sym (same_types words l 0)) (types_after l refl);
           rows = λ o. subst (λ x. RowRule x (map (row_read o) views_after)) (sym (same_row words l 0 o)) (rows_after o);

@@ -299,6 +299,7 @@ module _ (opened : World) (limits : Limits) (words : Words) (homes : Homes) (vie
     numbers = numbers_after;
     slots = slots_after;
     rows_are = p.rows_are;
+    sequence = p.sequence;
     kept = λ k. each_after (kept_read k) (λ i u. u.hold.held ≡ true → KeptBy opened k g.history u) (p.kept k) (kept_m k) (λ on. absurd (true≢false (sym on ∙ ap (λ h. h.held) (hold_blank k))));
     types = types_after;
     rows = λ o. each_after (row_read o) (λ i u. u.held ≡ true → u.words ≡ row_words words o) (p.rows o) (p.rows o id (row_read o v) (at_map (row_read o) views id v at)) (λ on. absurd (true≢false (sym on)));

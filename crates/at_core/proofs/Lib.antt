@@ -9,6 +9,7 @@ pub mod Counts
 pub mod HandLemmas
 pub mod Splitting
 pub mod Joining
+pub mod QuietSteps
 pub mod Opening
 pub mod Hands
 pub mod Moves

@@ -9,7 +9,7 @@ use Rattle.at_view.specs.declared.view.RowHold.{RowHold}
 use Rattle.at_view.specs.declared.view.RowCopy.{RowCopy}
 use Rattle.at_view.specs.declared.view.View.{View}
 use Rattle.at_view.specs.Views.{blank}
-use Rattle.at_view.specs.Words.{Words, updated, is_same, place}
+use Rattle.at_view.specs.Words.{Words, updated, is_same, place, global_sequence}
 use Rattle.at_core.specs.declared.lock.Lock as lock
 use Rattle.at_core.specs.declared.lock.Lock.TheVariants as locks
 use Rattle.at_core.specs.Locks.{lock_word, slot_of, hold_at, hold_of, holds, copy_at, IsUnchanged}
@@ -51,6 +51,10 @@ same_place words (locks.Row o) n = refl
 pub same_heads : (words : Words) (l : lock.Lock) (n : ℕ) → heads_of (updated words (lock_word l) n) ≡ heads_of words
 same_heads words locks.Types n = refl
 same_heads words (locks.Row o) n = refl
+
+pub same_global : (words : Words) (l : lock.Lock) (n : ℕ) → updated words (lock_word l) n global_sequence ≡ words global_sequence
+same_global words locks.Types n = refl
+same_global words (locks.Row o) n = refl
 
 pub same_types : (words : Words) (l : lock.Lock) (n : ℕ) → types_words (updated words (lock_word l) n) ≡ types_words words
 same_types words locks.Types n = refl

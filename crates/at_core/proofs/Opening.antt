@@ -183,6 +183,7 @@ module _ (opened : World) (limits : Limits) (a : Core) (allowed : IsAllowed limi
       all = let e = count_trues (passes - 1) in let c = sum_by-cons (λ (b : Bool). weight b) false (replicate (passes - 1) true) in omega arith;
     };
     slots = slot_is;
+    sequence = omega arith;
     rows_are = λ k h. absurd (no_dictionary (heads_of (words_of opening_words) k) (head_at_first k) h);
     kept = λ l. each_one _ (kept_read l (first_view limits)) (λ on. absurd (true≢false (sym on ∙ nothing_held l)));
     types = each_one _ (types_read (first_view limits)) (λ on. absurd (true≢false (sym on)));

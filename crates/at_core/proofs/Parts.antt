@@ -107,6 +107,7 @@ alike_keeps opened limits words homes views g id v w p at a live =
       types = left_alone types_read (TypesRule g.lists (types_words words)) views id v w at a.types p.types;
       rows = λ o. left_alone (row_read o) (RowRule (row_words words o)) views id v w at (a.row o) (p.rows o);
       joins = left_alone join_read (JoinRule g.history) views id v w at a.joins p.joins;
+      sequence = p.sequence;
       limited = left_alone limit_read (LimitRule limits) views id v w at a.limited p.limited;
       spent = spent_set views id w p.spent live;
     }

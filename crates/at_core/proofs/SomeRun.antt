@@ -1,5 +1,5 @@
 -- The run that is written out.
-use Rattle.std.proofs.Common.{◌≡◌, ◌≢◌, ℕ, zero, suc, Bool, false, IsTrue, List, [], ◌∷◌, length, map, set, drop, refl, sym, ap, ◌∙◌, subst, arith, length-set}
+use Rattle.std.proofs.Common.{◌≡◌, ◌≢◌, ℕ, zero, suc, ◌<◌, Bool, false, IsTrue, List, [], ◌∷◌, length, map, set, drop, refl, sym, ap, ◌∙◌, subst, arith, length-set}
 use Rattle.std.specs.Prelude.{Some, None}
 use mathlib.Core.Option.{some}
 use lib.ListN.{get_elem?}
@@ -10,7 +10,7 @@ use Rattle.at_dict.specs.Dictionary.{Dictionary}
 use Rattle.at_view.specs.declared.view.TypeLists.{TypeLists}
 use Rattle.at_view.specs.declared.view.View.{View}
 use Rattle.at_view.specs.Views.{first_view}
-use Rattle.at_view.specs.Words.{Word, number_of, is_there, is_same, table_words, type_lock, row_lock, head}
+use Rattle.at_view.specs.Words.{Word, number_of, is_there, is_same, table_words, type_lock, global_sequence, own_sequence, row_lock, head}
 use Rattle.at_core.specs.declared.lock.Lock as lock
 use Rattle.at_core.specs.declared.lock.Lock.TheVariants as locks
 use Rattle.at_core.specs.declared.stored.Stored.{Stored}
@@ -18,7 +18,7 @@ use Rattle.at_core.specs.declared.stored.Stored.TheVariants as stored
 use Rattle.at_core.specs.Locks.{slot_of, holds}
 use Rattle.at_core.specs.Rule.{Homes, TypesAgree, words_of}
 use Rattle.at_core.specs.Steps.{Moment, taken, missed, given, lists_parted, child, lists_joined}
-use Rattle.at_core.specs.Runs.{Core, Event, lock_take, lock_miss, lock_give, slot_out, slot_in, split, join, moment_of, opening_lists, opening_words, Goes, Leads}
+use Rattle.at_core.specs.Runs.{Core, Event, lock_take, lock_miss, lock_give, slot_out, slot_in, split, join, global_load, go_online, go_offline, moment_of, opening_lists, opening_words, Goes, Leads}
 use Rattle.at_core.specs.SomeRun.{some_events, HaveEachKind, SomeRunGoes}
 use Rattle.at_core.proofs.WordLemmas.{updated_here, updated_else, stored}
 use Rattle.at_core.proofs.LockLemmas.{hold_beside, hold_kept}
@@ -32,6 +32,9 @@ have_each_kind x y (slot_in id l z) = (3, omega arith, refl)
 have_each_kind x y (lock_miss id l) = (4, omega arith, refl)
 have_each_kind x y (lock_give id l) = (5, omega arith, refl)
 have_each_kind x y (join id other) = (10, omega arith, refl)
+have_each_kind x y (go_offline id) = (13, omega arith, refl)
+have_each_kind x y (global_load id) = (14, omega arith, refl)
+have_each_kind x y (go_online id) = (15, omega arith, refl)
 
 -- a word that was stored, and another one
 said_here : (words : List ℕ) → length words ≡ table_words → (a : Word) (n : ℕ) → IsTrue (is_there a) → words_of (set words (number_of a) n) a ≡ n
@@ -52,7 +55,7 @@ row_let_go v n at (locks.Row (suc o)) =
     ap (λ h. h.held) (hold_kept (locks.Row (suc o)) (locks.Row 0) (taken (locks.Row 0) (missed locks.Types (child v) n) at) ne ∙ hold_beside (locks.Row (suc o)) (locks.Row 0) (missed locks.Types (child v) n) at ne)
 
 -- The run, over any words and homes of which this is known
-module _ (opened : World) (limits : Limits) (words : List ℕ) (wide : length words ≡ table_words) (free : words_of words type_lock ≡ 0) (row_free : words_of words (row_lock 0) ≡ 0) (unmade : words_of words (head 0) ≡ 0)
+module _ (opened : World) (limits : Limits) (words : List ℕ) (wide : length words ≡ table_words) (free : words_of words type_lock ≡ 0) (row_free : words_of words (row_lock 0) ≡ 0) (unmade : words_of words (head 0) ≡ 0) (begun : 0 < words_of words global_sequence)
     (types : Stored) (agrees : (t : _) × (types ≡ stored.Types t) × TypesAgree limits.tags opened (opening_lists limits) t.value)
     (homes : Homes) (body : Dictionary) (home : get_elem? homes 0 ≡ some (some (Some (stored.Body body)))) (empty : body.map ≡ []) where
   abbrev start : Core
@@ -218,15 +221,45 @@ module _ (opened : World) (limits : Limits) (words : List ℕ) (wide : length wo
     },
   )
 
+  -- the global sequence has not changed
+  abbrev closing_words : List ℕ
+  closing_words = set (set last_words (number_of type_lock) 1) (number_of type_lock) 0
+
+  abbrev offline_words : List ℕ
+  offline_words = set closing_words (number_of (own_sequence 0)) 0
+
+  last_wide : length last_words ≡ table_words
+  last_wide = wide_still row_words (number_of (row_lock 0)) 0 row_wide
+
+  taken_wide : length (set last_words (number_of type_lock) 1) ≡ table_words
+  taken_wide = wide_still last_words (number_of type_lock) 1 last_wide
+
+  global_still : words_of offline_words global_sequence ≡ words_of words global_sequence
+  global_still =
+      said_else closing_words (wide_still (set last_words (number_of type_lock) 1) (number_of type_lock) 0 taken_wide) (own_sequence 0) global_sequence 0 refl refl
+      ∙ (said_else (set last_words (number_of type_lock) 1) taken_wide type_lock global_sequence 0 refl refl
+      ∙ (said_else last_words last_wide type_lock global_sequence 1 refl refl
+      ∙ (said_else row_words row_wide (row_lock 0) global_sequence 0 refl refl
+      ∙ (said_else freed_words freed_wide (row_lock 0) global_sequence 2 refl refl ∙ still global_sequence refl))))
+
+  abbrev leaves : StepFrom (go_offline 0) gives_again.0
+  leaves = (_, record { view = _; makes = record { there = refl; live = refl }; asked = record { closed = refl }; after = refl })
+
+  abbrev looks_up : StepFrom (global_load 0) leaves.0
+  looks_up = (_, record { view = _; makes = record { there = refl; live = refl }; after = refl })
+
+  abbrev returns : StepFrom (go_online 0) looks_up.0
+  returns = (_, record { view = _; makes = record { there = refl; live = refl }; asked = record { offline = refl; loaded = subst (λ (n : ℕ). 0 < n) (sym global_still) begun; closed = refl }; after = refl })
+
   -- those from the seventh on, and all
-  leads_on : Leads opened (drop 6 (some_events (types_with split_lists.numbers) (types_with join_lists.numbers))) gives_types.0 gives_again.0
-  leads_on = (_, takes_row.1, (_, gives_row.1, (_, takes_again.1, (_, has_out_again.1, (_, takes_in.1, (_, puts_in_again.1, (_, gives_again.1, refl)))))))
+  leads_on : Leads opened (drop 6 (some_events (types_with split_lists.numbers) (types_with join_lists.numbers))) gives_types.0 returns.0
+  leads_on = (_, takes_row.1, (_, gives_row.1, (_, takes_again.1, (_, has_out_again.1, (_, takes_in.1, (_, puts_in_again.1, (_, gives_again.1, (_, leaves.1, (_, looks_up.1, (_, returns.1, refl))))))))))
 
   goes : (x y : Stored) × (b : Core) × Leads opened (some_events x y) start b
   goes = (
     types_with split_lists.numbers,
     types_with join_lists.numbers,
-    gives_again.0,
+    returns.0,
     (_, takes_types.1, (_, has_types_out.1, (_, splits_off.1, (_, puts_types_in.1, (_, finds_held.1, (_, gives_types.1, leads_on)))))),
   )
 
@@ -235,5 +268,5 @@ some_run_goes opened limits a o =
     let there = has_index o.slots_are.bodies 0 (let e = o.slots_are.long in omega arith) in
     let body = o.slots_are.empty 0 there.0 there.1 in
     subst (λ s. (x y : Stored) × (b : Core) × Leads opened (some_events x y) s b) (sym (first_core opened limits a o))
-    (goes opened limits opening_words long_enough (free_at_first locks.Types) (free_at_first (locks.Row 0)) (head_at_first 0) o.slots_are.types o.slots_are.agrees
+    (goes opened limits opening_words long_enough (free_at_first locks.Types) (free_at_first (locks.Row 0)) (head_at_first 0) (omega arith) o.slots_are.types o.slots_are.agrees
     (map some o.slots_are.bodies) body.0 (at_map some o.slots_are.bodies 0 there.0 there.1 ∙ ap (λ x. some (some x)) body.1) body.2)

@@ -192,6 +192,7 @@ module _ (opened : World) (limits : Limits) (words : Words) (homes : Homes) (vie
         (subst (λ (ns : List Bool). NumberRule (lists_parted g.lists).numbers (map number_read views ++ record { live = true; number = unwrap_or (next_number ns) 0 } ∷ [])) (sym (ap (λ (ls : TypeLists). ls.numbers) lists_are)) numbers_grown);
     slots = slots_after;
     rows_are = p.rows_are;
+    sequence = p.sequence;
     kept = λ k. each_grown (kept_read k) (λ i u. u.hold.held ≡ true → KeptBy opened k g.history u) (p.kept k)
         (let same : kept_read k m ≡ kept_read k v = λ i. record { hold = hold_parted k i; seen = v.history.seen; own = v.history.own } in
         subst (λ u. u.hold.held ≡ true → KeptBy opened k g.history u) (sym same) (p.kept k id (kept_read k v) (at_map (kept_read k) views id v at)))

@@ -21,7 +21,7 @@ use Rattle.at_core.specs.Steps.{Moment, mark, taken, missed}
 use Rattle.at_core.proofs.Lists.{each_set}
 use Rattle.at_core.proofs.Prefixes.{prefix_self, prefix_trans, prefix_length, prefix_whole}
 use Rattle.at_core.proofs.WordLemmas.{updated_here}
-use Rattle.at_core.proofs.LockLemmas.{lock_cases, slot_apart, other_word, same_place, same_heads, same_types, same_row, hold_marked, hold_taken, hold_beside, copy_taken, copy_beside}
+use Rattle.at_core.proofs.LockLemmas.{lock_cases, slot_apart, other_word, same_place, same_heads, same_global, same_types, same_row, hold_marked, hold_taken, hold_beside, copy_taken, copy_beside}
 use Rattle.at_core.proofs.Parts.{left_alone, changed, history_seen, lock_taken, seen_begins, spent_set, alike_keeps}
 
 -- Whoever has seen all of the history: nothing comes after it
@@ -165,6 +165,7 @@ module _ (opened : World) (limits : Limits) (words : Words) (homes : Homes) (vie
           numbers = left_alone number_read (NumberRule g.lists.numbers) views id v w at refl p.numbers;
           slots = slots_after;
           rows_are = subst (λ heads. RowsAre heads) (sym (same_heads words l (suc v.who.number))) p.rows_are;
+          sequence = subst (λ (n : ℕ). 0 < n) (sym (same_global words l (suc v.who.number))) p.sequence;
           kept = kept_after;
           types = types_after l refl;
           rows = rows_after;

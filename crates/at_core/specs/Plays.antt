@@ -7,13 +7,13 @@ use Rattle.at_model.specs.History.{IsProper}
 use Rattle.at_types.specs.Tags.{times}
 use Rattle.at_view.specs.declared.view.View.{View}
 use Rattle.at_view.specs.Counts.{passes}
-use Rattle.at_view.specs.Words.{number_of}
+use Rattle.at_view.specs.Words.{number_of, global_sequence, own_sequence}
 use Rattle.at_core.specs.declared.lock.Lock as lock
 use Rattle.at_core.specs.declared.stored.Stored.{Stored}
 use Rattle.at_core.specs.Locks.{lock_word, slot_of, AreKept}
 use Rattle.at_core.specs.Reads.{births_of}
 use Rattle.at_core.specs.Rule.{Slot, IsLock}
-use Rattle.at_core.specs.Steps.{Moment, taken, missed, given, ValueAgrees}
+use Rattle.at_core.specs.Steps.{Moment, taken, missed, given, global_loaded, gone_online, gone_offline, ValueAgrees}
 
 -- the first pass, without a child: the only live one
 pub record IsAlone (v : View) : Type 0 where
@@ -59,6 +59,17 @@ pub record Brought (v : View) : Type 0 where
   pub first : length v.joined.first ≤ length v.history.seen → IsPrefix v.joined.first v.history.seen
   pub second : length v.joined.second ≤ length v.history.seen → IsPrefix v.joined.second v.history.seen
   pub once : (p : ℕ) → times p v.history.own ≤ 1
+
+-- A load of the global sequence tells what it is, which isn't 0.
+abbrev pub LoadsGlobal : Step Slot → Me Slot View → ℕ → Me Slot View → Type 0
+LoadsGlobal st m n m' = st.word ≡ number_of global_sequence → (m' ≡ (global_loaded m.0 n, m.1)) × (0 < n)
+
+-- A pass that goes online stores what it loaded, and one that goes offline 0.
+abbrev pub GoesOnline : Step Slot → Me Slot View → ℕ → Me Slot View → Type 0
+GoesOnline st m n m' = st.word ≡ number_of (own_sequence m.0.who.number) → m' ≡ (gone_online m.0, m.1)
+
+abbrev pub GoesOffline : Step Slot → Me Slot View → ℕ → Me Slot View → Type 0
+GoesOffline st m n m' = st.word ≡ number_of (own_sequence m.0.who.number) → m' ≡ (gone_offline m.0, m.1)
 
 -- A give stores 0.
 abbrev pub Gives : Step Slot → Me Slot View → ℕ → Me Slot View → Type 0

@@ -187,6 +187,10 @@ RowRule words views = Each (λ i v. v.held ≡ true → v.words ≡ words) views
 abbrev pub JoinRule : List op.Op → List JoinView → Type 0
 JoinRule history views = Each (λ i v. IsPrefix v.first history × IsPrefix v.second history) views
 
+-- the global sequence has begun, so that no pass that is online has 0 of it
+abbrev pub SequenceRule : ℕ → Type 0
+SequenceRule global = 0 < global
+
 -- a live view has the limits of the table
 abbrev pub LimitRule : Limits → List LimitRead → Type 0
 LimitRule limits views = Each (λ i v. v.live ≡ true → v.limits ≡ limits) views
@@ -232,6 +236,7 @@ pub record Parts (opened : World) (limits : Limits) (words : Words) (homes : Hom
   pub types : TypesRule g.lists (types_words words) (map types_read views)
   pub rows : (o : ℕ) → RowRule (row_words words o) (map (row_read o) views)
   pub joins : JoinRule g.history (map join_read views)
+  pub sequence : SequenceRule (words global_sequence)
   pub limited : LimitRule limits (map limit_read views)
   pub spent : SpentRule views
 

@@ -12,14 +12,14 @@ use Rattle.at_view.specs.declared.view.TypeLists.{TypeLists}
 use Rattle.at_view.specs.declared.view.View.{View}
 use Rattle.at_view.specs.Counts.{passes}
 use Rattle.at_view.specs.Views.{blank, first_view}
-use Rattle.at_view.specs.Words.{Words, Word, number_of, table_words}
+use Rattle.at_view.specs.Words.{Words, Word, number_of, global_sequence, own_sequence, table_words}
 use Rattle.at_core.specs.declared.lock.Lock as lock
 use Rattle.at_core.specs.declared.lock.Lock.TheVariants as locks
 use Rattle.at_core.specs.declared.stored.Stored.{Stored}
 use Rattle.at_core.specs.declared.stored.Stored.TheVariants as stored
 use Rattle.at_core.specs.Locks.{lock_word, slot_of, holds}
 use Rattle.at_core.specs.Rule.{Slot, Board, Ghost, Holds, IsLock, TypesAgree, words_of}
-use Rattle.at_core.specs.Steps.{Moment, MayTake, taken, missed, MayGive, given, lists_given, MaySplit, lists_parted, parted, child, MayJoin, lists_joined, merged}
+use Rattle.at_core.specs.Steps.{Moment, MayTake, taken, missed, MayGive, given, lists_given, MaySplit, lists_parted, parted, child, MayJoin, lists_joined, merged, global_loaded, MayGoOnline, gone_online, MayGoOffline, gone_offline}
 
 -- what the passes have in hand: by the number of a view and that of a slot, the slot where it is out to that pass
 abbrev pub Hands : Type 0
@@ -43,6 +43,10 @@ pub data Event : Type 0 where
   -- a new pass splits off, and it takes in another
   split : ℕ → Event
   join : ℕ → ℕ → Event
+  -- it loads the global sequence, goes online, or goes offline
+  global_load : ℕ → Event
+  go_online : ℕ → Event
+  go_offline : ℕ → Event
 
 abbrev pub words_at : Core → Words
 words_at a = words_of a.table.words
@@ -155,6 +159,30 @@ pub record Joins (id other : ℕ) (a b : Core) : Type 0 where
     ghost = record a.ghost { lists = lists_joined a.ghost.lists joined.who.number };
   }
 
+-- A word becomes n, and the view of the pass w. Nothing changes hands.
+abbrev pub at_word : Core → ℕ → Word → ℕ → View → Core
+at_word a id word n w = record { table = table_after a id word n w keeps []; hands = a.hands; ghost = a.ghost }
+
+-- The global sequence is loaded.
+pub record LoadsGlobal (id : ℕ) (a b : Core) : Type 0 where
+  pub view : View
+  pub makes : Makes a id view
+  pub after : b ≡ at_word a id global_sequence (words_at a global_sequence) (global_loaded view (words_at a global_sequence))
+
+-- The pass goes online with what it loaded.
+pub record GoesOnline (id : ℕ) (a b : Core) : Type 0 where
+  pub view : View
+  pub makes : Makes a id view
+  pub asked : MayGoOnline view
+  pub after : b ≡ at_word a id (own_sequence view.who.number) view.tags.global (gone_online view)
+
+-- The pass goes offline.
+pub record GoesOffline (id : ℕ) (a b : Core) : Type 0 where
+  pub view : View
+  pub makes : Makes a id view
+  pub asked : MayGoOffline view
+  pub after : b ≡ at_word a id (own_sequence view.who.number) 0 (gone_offline view)
+
 -- the event leads from one state to the other
 abbrev pub Goes : World → Event → Core → Core → Type 0
 Goes opened (lock_take id l) a b = Takes id l a b
@@ -164,6 +192,9 @@ Goes opened (slot_out id l) a b = (x : Stored) × Exchanges id l (Some x) None a
 Goes opened (slot_in id l x) a b = Exchanges id l None (Some x) a b
 Goes opened (split id) a b = Splits id a b
 Goes opened (join id other) a b = Joins id other a b
+Goes opened (global_load id) a b = LoadsGlobal id a b
+Goes opened (go_online id) a b = GoesOnline id a b
+Goes opened (go_offline id) a b = GoesOffline id a b
 
 -- these events lead from one state to the other
 abbrev pub Leads : World → List Event → Core → Core → Type 0

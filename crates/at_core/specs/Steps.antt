@@ -17,7 +17,7 @@ use Rattle.at_view.specs.declared.view.TypeLists.{TypeLists}
 use Rattle.at_view.specs.declared.view.TypesView.{TypesView}
 use Rattle.at_view.specs.declared.view.View.{View}
 use Rattle.at_view.specs.Views.{blank, longer}
-use Rattle.at_view.specs.Words.{Word, Words, number_of, place, head, key}
+use Rattle.at_view.specs.Words.{Word, Words, number_of, place, global_sequence, own_sequence, head, key}
 use Rattle.at_core.specs.declared.lock.Lock as lock
 use Rattle.at_core.specs.declared.lock.Lock.TheVariants as locks
 use Rattle.at_core.specs.declared.stored.Stored.{Stored}
@@ -129,6 +129,32 @@ given l v = marked (record v { types = types_given l v.types; holds = holds_give
 abbrev pub lists_given : lock.Lock → TypeLists → TypeLists → TypeLists
 lists_given locks.Types back lists = back
 lists_given (locks.Row o) back lists = lists
+
+-- Being online: the global sequence is loaded, and what was loaded of it becomes the pass's own; 0 is that of a pass that is offline
+
+-- what was found there is known
+abbrev pub global_loaded : View → ℕ → View
+global_loaded v found = marked (record v { tags = record v.tags { global = found } }) (mark kinds.GlobalLoad global_sequence (Some found) (Some found))
+
+-- asked is that the pass is offline, has loaded the global sequence, and has no cache entry open
+pub record MayGoOnline (v : View) : Type 0 where
+  pub offline : v.tags.online ≡ false
+  pub loaded : 0 < v.tags.global
+  pub closed : v.write.writing ≡ false
+
+-- that it has no cache entry open
+pub record MayGoOffline (v : View) : Type 0 where
+  pub closed : v.write.writing ≡ false
+
+-- the pass holds no tag, and nothing of a read
+abbrev pub forgetting : Bool → View → View
+forgetting online v = record v { tags = record { online = online; global = v.tags.global; held = [] }; looks = []; read = blank.read }
+
+abbrev pub gone_online : View → View
+gone_online v = marked (forgetting true v) (mark kinds.Online (own_sequence v.who.number) None (Some v.tags.global))
+
+abbrev pub gone_offline : View → View
+gone_offline v = marked (forgetting false v) (mark kinds.Offline (own_sequence v.who.number) None (Some 0))
 
 -- Splitting a pass off: asked is that the pass holds the lock of the types and no other, and that a number is free
 
