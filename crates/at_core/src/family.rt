@@ -45,6 +45,7 @@ pub fn split_off(world: &World, pass: &mut Pass, number: u8) -> Pass
     Pass {
         seat,
         number,
+        online: false,
         hand: ArrayVec::new(),
     }
 }
@@ -62,6 +63,7 @@ pub fn take_in(world: &World, pass: &mut Pass, other: Pass)
     let Pass {
         seat,
         number: _,
+        online: _,
         hand: _,
     } = other;
     world

@@ -103,6 +103,7 @@ impl World {
         let pass = Pass {
             seat,
             number: 0,
+            online: true,
             hand: ArrayVec::new(),
         };
         let world = World {

@@ -12,4 +12,11 @@ impl Pass {
     {
         self.number
     }
+
+    /// Whether the pass is online: then no tag that it holds is given again.
+    pub fn online(&self) -> bool
+        ensures { result ≡ (view self.now).tags.online }
+    {
+        self.online
+    }
 }

@@ -60,6 +60,7 @@ pub fn go_online(world: &World, pass: &mut Pass, global: u64)
         .table
         .shared
         .store::<OnlinePlay>(&mut pass.seat, words::own_sequence(pass.number), global);
+    pass.online = true;
 }
 
 /// Goes offline. It asks that the pass has no cache entry open. The pass holds no tag and nothing of a read.
@@ -73,4 +74,5 @@ pub fn go_offline(world: &World, pass: &mut Pass)
         .table
         .shared
         .store::<OfflinePlay>(&mut pass.seat, words::own_sequence(pass.number), 0);
+    pass.online = false;
 }

@@ -53,10 +53,12 @@ pub struct World {
 pub struct Pass {
     pub(crate) seat: Seat<Option<Stored>, View>,
     pub(crate) number: u8,
+    pub(crate) online: bool,
     /// The numbers of the slots in hand, the front first.
     pub(crate) hand: ArrayVec<u16, MOST_HELD>,
     ghost live: { seat.me.0.who.live ≡ true },
     ghost numbered: { (seat.me.0.who.number ≡ number) × (number < passes) },
+    ghost turned: { seat.me.0.tags.online ≡ online },
     ghost listed: { hand.items ≡ map slot_number seat.me.1 },
     ghost once: { (k : ℕ) → times k (map slot_number seat.me.1) ≤ 1 },
     ghost within: { (k : ℕ) → 0 < times k (map slot_number seat.me.1) → k < suc objects },

@@ -5,6 +5,7 @@ use Rattle.std.proofs.lemmas.Bool.Decides.{nat_tests}
 use mathlib.Core.List.{IsPrefix}
 use Rattle.at_value.specs.declared.operation.Op as op
 use Rattle.at_types.specs.declared.types.Types as types
+use Rattle.at_types.specs.Tags.{times}
 use Rattle.at_view.specs.declared.view.HistoryView.{HistoryView}
 use Rattle.at_view.specs.declared.view.View.{View}
 use Rattle.at_view.specs.Views.{longer}
@@ -13,11 +14,13 @@ use Rattle.at_core.specs.declared.lock.Lock.TheVariants as locks
 use Rattle.at_core.specs.declared.stored.Stored.TheVariants as stored
 use Rattle.at_core.specs.Locks.{holds}
 use Rattle.at_core.specs.Plays.{Brought}
-use Rattle.at_core.specs.Steps.{given, parted, child, merged, next_number, HoldsTypesAlone}
+use Rattle.at_core.specs.Steps.{given, parted, child, merged, global_loaded, gone_online, next_number, HoldsTypesAlone}
 use Rattle.at_core.proofs.LockLemmas.{hold_taken, hold_beside, hold_given, hold_kept, holds_parted, holds_merged}
 use Rattle.at_lock.specs.Holding.{IsRight}
+use Rattle.at_core.proofs.Counts.{times_cons, weight_same}
+use Rattle.at_core.proofs.QuietSteps.{holds_quiet, load_quiet, online_quiet}
 use Rattle.at_lock.specs.Waits.{IsTaken, waited}
-use Rattle.at_lock.specs.Families.{HoldsNone, HasSeenMore}
+use Rattle.at_lock.specs.Families.{HoldsNone, HasComeOnline, HasSeenMore}
 use Rattle.at_lock.proofs.Waiting.{holds_waited, history_waited, who_waited}
 
 types_apart : (o : ℕ) → locks.Row o ≢ locks.Types
@@ -26,6 +29,7 @@ types_apart o e = absurd (apart_types o e)
     is_types : lock.Lock → Bool
     is_types locks.Types = true
     is_types (locks.Row p) = false
+
     apart_types : (o : ℕ) → locks.Row o ≡ locks.Types → ⊥
     apart_types o e = true≢false (sym (ap is_types e))
 
@@ -101,5 +105,25 @@ pub numbers_of : (v : View) (box : Box types.Types Global) → IsRight v locks.T
 numbers_of v box right = let same : box ≡ right.0 = cc (right.1) in ap (λ (b : Box types.Types Global). b.value.numbers) same ∙ right.2.numbers
 
 -- the new pass has the least free number
-pub least_number : (v new : View) (number : ℕ) → next_number v.types.lists.numbers ≡ Some number → new ≡ child v → next_number v.types.lists.numbers ≡ Some new.who.number
-least_number v new number free is = free ∙ ap (λ (n : ℕ). Some n) (sym (ap (λ w. w.who.number) is ∙ ap (λ o. unwrap_or o 0) free))
+pub least_number : (v new : View) (number : ℕ) → next_number v.types.lists.numbers ≡ Some number → HasComeOnline (child v) new → next_number v.types.lists.numbers ≡ Some new.who.number
+least_number v new number free is = free ∙ ap (λ (n : ℕ). Some n) (sym (ap (λ w. w.who.number) is.after ∙ ap (λ o. unwrap_or o 0) free))
+
+-- coming online takes no lock
+pub online_free : (v w : View) (l : lock.Lock) → HasComeOnline v w → holds l w ≡ holds l v
+online_free v w l c = ap (holds l) c.after ∙ (holds_quiet (global_loaded v c.global) (gone_online (global_loaded v c.global)) (online_quiet (global_loaded v c.global)) l ∙ holds_quiet v (global_loaded v c.global) (load_quiet v c.global) l)
+
+-- Children
+
+-- the new pass is a child
+pub child_among : (v : View) → 0 < times v.types.lists.next_birth (parted v).who.children
+child_among v = let c = times_cons v.types.lists.next_birth v.types.lists.next_birth v.who.children in let one = weight_same v.types.lists.next_birth in omega arith
+
+pub same_children : (v held : View) → IsTaken locks.Types v held → held.who.children ≡ v.who.children
+same_children v held t = ap (λ u. u.who.children) t.last.after ∙ ap (λ y. y.children) (who_waited locks.Types v t.holders)
+
+-- those of before are still there
+pub more_children : (v held : View) (b : ℕ) → IsTaken locks.Types v held → times b v.who.children ≤ times b (parted held).who.children
+more_children v held b t =
+    let c = times_cons b held.types.lists.next_birth held.who.children in
+    let e : times b held.who.children ≡ times b v.who.children = ap (times b) (same_children v held t) in
+    omega arith

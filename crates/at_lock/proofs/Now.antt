@@ -26,17 +26,25 @@ get_or_same (suc o) d (x ∷ xs) (y ∷ ys) e = get_or_same o d xs ys e
 
 pub still_agrees : (limits : Limits) (before now : World) (lists : TypeLists) (shape : Shape) (l : lock.Lock) (x : Stored) → IsUnchanged l before now
     → Agrees limits before lists shape l x → Agrees limits now lists shape l x
-still_agrees limits before now lists shape locks.Types x same a = (a.0, a.1, record {
-  stands = record { classes = a.2.stands.classes ∙ sym same.0; objects = a.2.stands.objects ∙ ap length (sym same.1) };
-  size = a.2.size;
-  numbers = a.2.numbers;
-  pool = a.2.pool;
-  limbo = a.2.limbo;
-})
-still_agrees limits before now lists shape (locks.Row o) x same a = (a.0, a.1, record {
-  full = λ dict. a.2.full dict ∙ get_or_same o [] before.dicts now.dicts (sym same.1);
-  empty = a.2.empty;
-})
+still_agrees limits before now lists shape locks.Types x same a = (
+  a.0,
+  a.1,
+  record {
+    stands = record { classes = a.2.stands.classes ∙ sym same.0; objects = a.2.stands.objects ∙ ap length (sym same.1) };
+    size = a.2.size;
+    numbers = a.2.numbers;
+    pool = a.2.pool;
+    limbo = a.2.limbo;
+  },
+)
+still_agrees limits before now lists shape (locks.Row o) x same a = (
+  a.0,
+  a.1,
+  record {
+    full = λ dict. a.2.full dict ∙ get_or_same o [] before.dicts now.dicts (sym same.1);
+    empty = a.2.empty;
+  },
+)
 
 pub right_now : (v : View) (l : lock.Lock) (x : Stored) → holds l v ≡ true → AreKept (opening_of v.who.limits) v → IsRight v l x → IsRightNow v l x
 right_now v l x held kept right = still_agrees v.who.limits _ _ _ _ l x (kept l held).1 right

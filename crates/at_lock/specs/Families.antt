@@ -6,19 +6,26 @@ use Rattle.at_view.specs.declared.view.View.{View}
 use Rattle.at_core.specs.declared.lock.Lock as lock
 use Rattle.at_core.specs.declared.lock.Lock.TheVariants as locks
 use Rattle.at_core.specs.Locks.{holds}
-use Rattle.at_core.specs.Steps.{given, parted, child, merged, next_number}
+use Rattle.at_core.specs.Steps.{given, parted, child, merged, next_number, global_loaded, gone_online}
 use Rattle.at_lock.specs.Waits.{IsTaken}
 
 abbrev pub HoldsNone : View → Type 0
 HoldsNone v = (l : lock.Lock) → holds l v ≡ false
 
--- Under the lock of the types, `held` being the view then, a number was free, and a new pass split off with it.
+-- The pass has loaded the global sequence, which isn't 0, and gone online with it.
+pub record HasComeOnline (v w : View) : Type 0 where
+  pub global : ℕ
+  pub begun : 0 < global
+  pub after : w ≡ gone_online (global_loaded v global)
+
+-- Under the lock of the types, `held` being the view then, a number was free, and a new pass split off with it and came
+-- online.
 pub record IsSplit (v w new : View) : Type 0 where
   pub held : View
   pub taken : IsTaken locks.Types v held
   pub free : next_number held.types.lists.numbers ≡ Some new.who.number
   pub after : w ≡ given locks.Types (parted held)
-  pub begins : new ≡ child held
+  pub begins : HasComeOnline (child held) new
 
 -- Under the lock of the types no number was free.
 pub record HasNoNumber (v w : View) : Type 0 where

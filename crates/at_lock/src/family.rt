@@ -1,18 +1,19 @@
 //! Passes that split off, and passes that are taken in.
-ghost use Rattle.std.specs.Prelude.{ℕ, ◌≡◌, ◌≤◌, ◌++◌, [], IfOk, IfErr};
+ghost use Rattle.std.specs.Prelude.{ℕ, ◌≡◌, ◌≤◌, ◌<◌, ◌++◌, [], false, IfOk, IfErr};
 ghost use mathlib.Core.List.{IsPrefix};
 ghost use Rattle.at_types.specs.Tags.{times};
 ghost use Rattle.at_core.specs.declared.lock.Lock.TheVariants as locks;
 ghost use Rattle.at_core.specs.declared.stored.Stored.TheVariants as stored;
-ghost use Rattle.at_core.specs.Passes.{view, hand, IsOf, IsSame};
+ghost use Rattle.at_core.specs.Passes.{view, hand, IsOf, IsSame, HasSameHand};
 ghost use Rattle.at_core.specs.Plays.{Brought};
-ghost use Rattle.at_core.specs.Steps.{given};
-ghost use Rattle.at_lock.specs.Families.{HoldsNone, IsSplit, HasNoNumber, IsJoined, HasSeenMore, MayEnd};
+ghost use Rattle.at_core.specs.Steps.{given, MayGoOffline};
+ghost use Rattle.at_lock.specs.Families.{HoldsNone, HasComeOnline, IsSplit, HasNoNumber, IsJoined, HasSeenMore, MayEnd};
 ghost use Rattle.at_lock.specs.Holding.{HasOut, IsRight};
 
 use crate::slots::{types_in, types_out};
 use crate::taking::{give, take};
 use at_core::family::{split_off, take_in};
+use at_core::sequences::{go_online, load_global};
 use at_core::{Lock, Pass, World};
 use at_types::Types;
 use std::sync::Wait;
@@ -36,15 +37,29 @@ fn put_back(world: &World, pass: &mut Pass, types: Box<Types>)
     give(world, pass, Lock::Types);
 }
 
-/// A new pass splits off, with the least number that is free. It has seen what the pass has seen, and has no own writes. `NoPass`
-/// comes exactly where no number was free while the pass held the lock of the types, which is so where 64 passes are live.
-/// The pass holds no lock before and after, and waits for that of the types.
+/// A pass that is offline and has no cache entry open comes online with what the global sequence is.
+fn come_online(world: &World, pass: &mut Pass)
+    requires of { IsOf pass.old world.now }
+    requires may { ((view pass.old).tags.online ≡ false) × MayGoOffline (view pass.old) }
+    ensures same { IsSame pass.old pass.new × IsOf pass.new world.now × HasSameHand pass.old pass.new }
+    ensures online { HasComeOnline (view pass.old) (view pass.new) }
+{
+    let global = load_global(world, pass);
+    go_online(world, pass, global);
+}
+
+/// A new pass splits off, with the least number that is free. It has seen what the pass has seen, has no own writes, and is
+/// online. `NoPass` comes exactly where no number was free while the pass held the lock of the types, which is so where 64
+/// passes are live. The pass holds no lock before and after, and waits for that of the types.
 pub fn split<R: Wait>(world: &World, rt: &R, pass: &mut Pass) -> Result<Pass, NoPass>
     requires of { IsOf pass.old world.now }
     requires out { HoldsNone (view pass.old) }
     ensures same { IsSame pass.old pass.new × IsOf pass.new world.now }
     ensures out { HoldsNone (view pass.new) }
-    ensures ok { IfOk result (λ new. IsOf new world.now × (hand new ≡ []) × IsSplit (view pass.old) (view pass.new) (view new)) }
+    ensures ok { IfOk result (λ new. IsSplit (view pass.old) (view pass.new) (view new)) }
+    ensures new { IfOk result (λ new. IsOf new world.now × (hand new ≡ []) × HoldsNone (view new)) }
+    ensures child { IfOk result (λ new. 0 < times (view new).history.birth (view pass.new).who.children) }
+    ensures children { (b : ℕ) → times b (view pass.old).who.children ≤ times b (view pass.new).who.children }
     ensures full { IfErr result (λ _. HasNoNumber (view pass.old) (view pass.new)) }
     ensures seen { HasSeenMore (view pass.old) (view pass.new) × ((view pass.new).history.own ≡ (view pass.old).history.own) }
 {
@@ -54,8 +69,9 @@ pub fn split<R: Wait>(world: &World, rt: &R, pass: &mut Pass) -> Result<Pass, No
         put_back(world, pass, types);
         return Err(NoPass);
     };
-    let new = split_off(world, pass, number);
+    let mut new = split_off(world, pass, number);
     put_back(world, pass, types);
+    come_online(world, &mut new);
     Ok(new)
 }
 

@@ -20,6 +20,7 @@ invariant_of-pass c =
     record {
       live = ap (λ m. m.0.who.live) e ∙ p.live;
       numbered = (ap (λ m. m.0.who.number) e ∙ p.numbered.0, p.numbered.1);
+      turned = ap (λ m. m.0.tags.online) e ∙ p.turned;
       listed = p.listed ∙ (ap numbers was ∙ sym (ap (λ m. numbers m.1) e));
       once = subst (λ (m : Me Slot View). AreOnce m.1) (sym e) once;
       within = subst (λ (m : Me Slot View). AreWithin m.1) (sym e) within;

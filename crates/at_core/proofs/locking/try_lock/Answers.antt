@@ -42,6 +42,7 @@ invariant_of-pass c =
     record {
       live = ap (λ m. m.0.who.live) e ∙ p.live;
       numbered = (ap (λ m. m.0.who.number) e ∙ p.numbered.0, p.numbered.1);
+      turned = ap (λ m. m.0.tags.online) e ∙ p.turned;
       listed = c.insert.ensures.items ∙ (ap (λ (n : ℕ × List ℕ). n.0 ∷ n.1) (λ i. (c.slot-slot.ensures.slot i, p.listed i)) ∙ sym (ap (λ m. map slot_number m.1) e));
       once = subst (λ (m : Me Slot View). AreOnce m.1) (sym e) (once_more (slot_of l) (Some took.1) me.1 p.once out);
       within = subst (λ (m : Me Slot View). AreWithin m.1) (sym e) (within_more (slot_of l) (Some took.1) me.1 p.within (lock_room l is));
@@ -58,6 +59,7 @@ invariant_of-pass-else-found-eq0 c =
     record {
       live = ap (λ m. m.0.who.live) e ∙ p.live;
       numbered = (ap (λ m. m.0.who.number) e ∙ p.numbered.0, p.numbered.1);
+      turned = ap (λ m. m.0.tags.online) e ∙ p.turned;
       listed = p.listed ∙ sym (ap (λ m. map slot_number m.1) e);
       once = subst (λ (m : Me Slot View). AreOnce m.1) (sym e) p.once;
       within = subst (λ (m : Me Slot View). AreWithin m.1) (sym e) p.within;

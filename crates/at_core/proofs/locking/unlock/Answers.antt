@@ -48,6 +48,7 @@ invariant_of-pass c =
     record {
       live = ap (λ m. m.0.who.live) e ∙ p.live;
       numbered = (ap (λ m. m.0.who.number) e ∙ p.numbered.0, p.numbered.1);
+      turned = ap (λ m. m.0.tags.online) e ∙ p.turned;
       listed = c.remove.ensures.items ∙ (ap (drop 1) (p.listed ∙ ap numbers front.1) ∙ sym (ap (λ m. numbers m.1) e));
       once = subst (λ (m : Me Slot View). AreOnce m.1) (sym e) (others_once (slot_of l, Some has.1) front.0 once);
       within = subst (λ (m : Me Slot View). AreWithin m.1) (sym e) (within_others (slot_of l, Some has.1) front.0 (subst AreWithin front.1 p.within));

@@ -28,9 +28,11 @@ store-requires c =
     let there : IsTrue (is_there (own_sequence p.number)) = grind (arith, nat_tests, small) in
     let room : number_of (own_sequence p.number) < table.table_id.words = subst (λ (n : ℕ). number_of (own_sequence p.number) < n) (sym c.args.world.now.sized.0) (inside (own_sequence p.number) there) in
     let Q : ℕ → Type 0 = λ n. Allows (Base opening table.key) table.table_id.slots p.seat.id me n (λ _. 0) (λ _. GoesOffline (step table.table_id.slots n 0 0 none) me 0) in
-    let word : number_of (own_sequence me.0.who.number) ≡ c.own_sequence.result = ap (λ (n : ℕ). number_of (own_sequence n)) p.numbered.0 ∙ sym c.own_sequence.ensures in
-    (c.requires.of.table, subst (λ (n : ℕ). n < table.table_id.words) (sym c.own_sequence.ensures) room,
-    subst Q word (turns_offline opening table.key table.table_id.slots p.seat.id me p.live (subst (λ (n : ℕ). n < passes) (sym p.numbered.0) small)))
+    let word : number_of (own_sequence me.0.who.number) ≡ c.own_sequence.result = ap (λ (n : ℕ). number_of (own_sequence n)) p.numbered.0 ∙ sym c.own_sequence.ensures in (
+      c.requires.of.table,
+      subst (λ (n : ℕ). n < table.table_id.words) (sym c.own_sequence.ensures) room,
+      subst Q word (turns_offline opening table.key table.table_id.slots p.seat.id me p.live (subst (λ (n : ℕ). n < passes) (sym p.numbered.0) small)),
+    )
 
 -- nothing has changed but what the pass knows of sequences and tags
 pub invariant_of-pass : goal.invariant_of-pass
@@ -42,6 +44,7 @@ invariant_of-pass c =
     record {
       live = ap (λ m. m.0.who.live) e ∙ p.live;
       numbered = (ap (λ m. m.0.who.number) e ∙ p.numbered.0, p.numbered.1);
+      turned = ap (λ m. m.0.tags.online) e;
       listed = p.listed ∙ sym (ap (λ m. map slot_number m.1) e);
       once = λ k. subst (λ hand. times k (map slot_number hand) ≤ 1) (sym (ap (λ m. m.1) e)) (p.once k);
       within = λ k. subst (λ hand. 0 < times k (map slot_number hand) → k < suc objects) (sym (ap (λ m. m.1) e)) (p.within k);

@@ -32,6 +32,7 @@ invariant_of-pass c =
     record {
       live = ap (λ m. m.0.who.live) e ∙ p.live;
       numbered = (ap (λ m. m.0.who.number) e ∙ p.numbered.0, p.numbered.1);
+      turned = ap (λ m. m.0.tags.online) e ∙ p.turned;
       listed = p.listed ∙ sym (ap (λ m. map slot_number m.1) e);
       once = λ k. subst (λ hand. times k (map slot_number hand) ≤ 1) (sym (ap (λ m. m.1) e)) (p.once k);
       within = λ k. subst (λ hand. 0 < times k (map slot_number hand) → k < suc objects) (sym (ap (λ m. m.1) e)) (p.within k);
