@@ -14,6 +14,21 @@ fn laws_hold() {
     laws::some_run();
 }
 
+/// A thread may be handed a value of this type, and share it.
+fn may_be_shared<T: Send + Sync>(_value: &T) {}
+
+/// A thread may be handed a value of this type.
+fn may_be_sent<T: Send>(_value: &T) {}
+
+#[test]
+fn a_world_and_its_passes_may_cross_threads(rt: HostRuntime) -> Result<(), OpenFault> {
+    let (world, pass) = World::open(rt.alloc(), Limits::program())?;
+    may_be_shared(&world);
+    may_be_sent(&pass);
+    assert_eq!(rt; pass.number(), 0);
+    Ok(())
+}
+
 #[test]
 fn limits_are_looked_at(rt: HostRuntime) {
     let alloc = rt.alloc();

@@ -1,4 +1,4 @@
-use Rattle.std.proofs.Common.{◌≡◌, sym, subst}
+use Rattle.std.proofs.Common.{sym, subst}
 use Rattle.at_model.specs.World.{opening}
 use Rattle.at_view.specs.declared.view.View.{View}
 use Rattle.at_core.specs.Steps.{MayGive}

@@ -1,4 +1,4 @@
-use Rattle.std.proofs.Common.{◌≡◌, ℕ, ◌<◌, ◌≤◌, ◌∷◌, Bool, List, refl, sym, ap, ◌∙◌, subst}
+use Rattle.std.proofs.Common.{◌≡◌, ℕ, ◌<◌, ◌≤◌, ◌∷◌, Bool, List, refl, sym, ap, ◌∙◌, subst, arith}
 use Rattle.std.specs.Prelude.{Some, None, position}
 use Rattle.at_types.specs.Tags.{times}
 use Rattle.at_view.specs.declared.view.View.{View}
@@ -10,7 +10,7 @@ use Rattle.at_core.proofs.HandOf.{empty_hand}
 use Rattle.at_core.proofs.LockLemmas.{holds_child}
 use Rattle.at_lock.specs.Families.{HoldsNone, HasComeOnline, HasSeenMore}
 use Rattle.at_lock.specs.Waits.{IsTaken}
-use Rattle.at_lock.proofs.Families.{alone, alone_parted, none_given, more_taken, numbers_of, least_number, online_free, child_among, more_children}
+use Rattle.at_lock.proofs.Families.{alone, alone_parted, none_given, more_taken, numbers_of, least_number, online_free, child_among, same_children, more_children}
 use Rattle.at_lock.proofs.family.split.Goals as goal
 
 pub returns-in_default-clause-out : goal.returns-in_default-clause-out
@@ -26,6 +26,15 @@ returns-in_default-clause-seen g c =
     let same : view c.put_back.new.pass ≡ given locks.Types held = c.put_back.ensures.given ∙ ap (given locks.Types) c.types_out-types.ensures.same.2 in
     let more = more_taken v held c.take.ensures.taken in
     subst (λ (w : View). HasSeenMore v w × (w.history.own ≡ v.history.own)) (sym same) (record { seen = more.0.seen; birth = more.0.birth; number = more.0.number }, more.1)
+
+pub returns-in_default-clause-children : goal.returns-in_default-clause-children
+returns-in_default-clause-children g c b =
+    let v = view c.args.pass.now in
+    let held = view c.take.new.pass in
+    let same : view c.put_back.new.pass ≡ given locks.Types held = c.put_back.ensures.given ∙ ap (given locks.Types) c.types_out-types.ensures.same.2 in
+    let children : (view c.put_back.new.pass).who.children ≡ v.who.children = ap (λ (w : View). w.who.children) same ∙ same_children v held c.take.ensures.taken in
+    let e : times b (view c.put_back.new.pass).who.children ≡ times b v.who.children = ap (times b) children in
+    omega arith
 
 pub split_off-new-requires-clause-may : goal.split_off-new-requires-clause-may
 split_off-new-requires-clause-may g c =
