@@ -1,9 +1,6 @@
 -- What a pass has of a lock that it holds.
-use Rattle.std.specs.Prelude.{ℕ, ◌≡◌, List, true, Some, None}
-use Rattle.at_value.specs.declared.operation.Op as op
-use Rattle.at_model.specs.World.{World}
+use Rattle.std.specs.Prelude.{◌≡◌, true, Some, None}
 use Rattle.at_model.specs.History.{replay}
-use Rattle.at_view.specs.declared.view.TypeLists.{TypeLists}
 use Rattle.at_view.specs.declared.view.View.{View}
 use Rattle.at_core.specs.declared.lock.Lock as lock
 use Rattle.at_core.specs.declared.stored.Stored.{Stored}

@@ -1,6 +1,5 @@
 use Rattle.std.proofs.Common.{◌≡◌, ℕ, ◌<◌, ◌≤◌, ◌++◌, List, sym, ap, ◌∙◌, subst}
 use Rattle.at_types.specs.Tags.{times}
-use Rattle.at_value.specs.declared.operation.Op as op
 use Rattle.at_view.specs.declared.view.View.{View}
 use mathlib.Core.List.{IsPrefix}
 use Rattle.at_core.specs.declared.lock.Lock.TheVariants as locks
@@ -10,7 +9,6 @@ use Rattle.at_core.specs.Plays.{Brought}
 use Rattle.at_core.specs.Steps.{given, merged, HoldsTypesAlone}
 use Rattle.at_core.proofs.Prefixes.{prefix_trans}
 use Rattle.at_lock.specs.Families.{HoldsNone, HasSeenMore}
-use Rattle.at_lock.specs.Waits.{IsTaken, waited}
 use Rattle.at_lock.proofs.Waiting.{who_waited}
 use Rattle.at_lock.proofs.Families.{alone, alone_merged, none_given, more_taken, first_seen, second_seen}
 use Rattle.at_lock.proofs.family.join.Goals as goal

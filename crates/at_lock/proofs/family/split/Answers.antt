@@ -1,15 +1,14 @@
-use Rattle.std.proofs.Common.{◌≡◌, ℕ, ◌<◌, ◌≤◌, ◌∷◌, Bool, List, refl, sym, ap, ◌∙◌, subst, arith}
-use Rattle.std.specs.Prelude.{Some, None, position}
+use Rattle.std.proofs.Common.{◌≡◌, ◌<◌, ◌≤◌, Bool, List, sym, ap, ◌∙◌, subst, arith}
+use Rattle.std.specs.Prelude.{Some, position}
 use Rattle.at_types.specs.Tags.{times}
 use Rattle.at_view.specs.declared.view.View.{View}
 use Rattle.at_core.specs.declared.lock.Lock.TheVariants as locks
 use Rattle.at_core.specs.Locks.{holds}
 use Rattle.at_core.specs.Passes.{view}
-use Rattle.at_core.specs.Steps.{given, parted, child, next_number, MaySplit, HoldsTypesAlone}
+use Rattle.at_core.specs.Steps.{given, parted, child, next_number, HoldsTypesAlone}
 use Rattle.at_core.proofs.HandOf.{empty_hand}
 use Rattle.at_core.proofs.LockLemmas.{holds_child}
 use Rattle.at_lock.specs.Families.{HoldsNone, HasComeOnline, HasSeenMore}
-use Rattle.at_lock.specs.Waits.{IsTaken}
 use Rattle.at_lock.proofs.Families.{alone, alone_parted, none_given, more_taken, numbers_of, least_number, online_free, child_among, same_children, more_children}
 use Rattle.at_lock.proofs.family.split.Goals as goal
 

@@ -1,7 +1,7 @@
-use Rattle.std.proofs.Common.{◌≡◌, ℕ, suc, ◌<◌, List, [], ◌∷◌, ◌++◌, false, length, refl, sym, ap, ◌∙◌, subst, arith}
+use Rattle.std.proofs.Common.{suc, [], ◌∷◌, ◌++◌, length, refl, sym, ap, ◌∙◌, subst, arith}
 use Rattle.at_view.specs.declared.view.View.{View}
 use Rattle.at_core.specs.Locks.{holds}
-use Rattle.at_core.specs.Passes.{view, hand}
+use Rattle.at_core.specs.Passes.{view}
 use Rattle.at_core.specs.Steps.{missed}
 use Rattle.at_core.proofs.HandOf.{empty_hand}
 use Rattle.at_lock.specs.Waits.{IsTakenAtOnce}

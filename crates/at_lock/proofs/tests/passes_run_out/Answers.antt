@@ -1,4 +1,4 @@
-use Rattle.std.proofs.Common.{◌≡◌, ℕ, ◌<◌, sym, ap, ◌∙◌, subst, arith}
+use Rattle.std.proofs.Common.{ℕ, ◌<◌, sym, ap, ◌∙◌, subst, arith}
 use Rattle.at_types.specs.Tags.{times}
 use Rattle.at_view.specs.declared.view.View.{View}
 use Rattle.at_core.specs.Passes.{view}
