@@ -1,4 +1,4 @@
-//! Running the block `main` of a script on the plain data model.
+//! Running a script on the plain data model.
 ghost use Rattle.std.specs.Prelude.{◌≡◌, ◌+◌, ◌*◌, ◌≤◌, [], None, replicate, IfOk};
 ghost use Rattle.at_thread.specs.Threads.{state_of};
 ghost use Rattle.at_thread.specs.Executions.{Answers};
@@ -7,7 +7,7 @@ ghost use Rattle.at_run.specs.Opening.{opening_of};
 ghost use Rattle.at_run.specs.PlainRun.{IsPlainRun};
 ghost use Rattle.at_run.specs.Turns.{IsPlain, Tells, Moves, TellsIn, IsRunOfMain};
 
-use at_line::{Line, LineOp, LineReply, MAIN_THREAD, Ran, What};
+use at_line::{FINALLY_THREAD, Line, LineOp, LineReply, MAIN_THREAD, Ran, What};
 use at_script::{Block, Script, Stmt};
 use at_thread::{Next, ReplyUse, Thread};
 use at_value::{Path, Reply, Sequence, Value};
@@ -24,14 +24,24 @@ enum Turn {
     Says(What),
 }
 
-/// Runs the block `main` of a script from the opening world on, each path `Locked`. The script has no other blocks to
-/// run.
-pub fn run_main(alloc: Global, script: &Script) -> Result<Ran, AllocError>
-    requires { (script.now.threads ≡ []) × (script.now.finally ≡ None) }
+/// Runs a script from the opening world on, each path `Locked`: `main`, then each thread in turn, then `finally`. Sections
+/// are kept, and checkpoints do nothing.
+pub fn run_plain(alloc: Global, script: &Script) -> Result<Ran, AllocError>
     ensures { IfOk result (λ ran. IsPlainRun script.now ran.lines ran.last) }
 {
     let mut plain = Plain::new(alloc)?;
-    let lines = run_block(alloc, &mut plain, script)?;
+    let mut lines = Vec::new(alloc);
+    let variables = unbound(alloc, script.vars())?;
+    let main = statements_of(script, Block::Main);
+    let variables = run_block(alloc, &mut plain, script, main, MAIN_THREAD, variables, &mut lines)?;
+    for thread in 0..script.threads() {
+        let block = statements_of(script, Block::Thread(thread));
+        let copy = Vec::from_slice(alloc, &variables)?;
+        run_block(alloc, &mut plain, script, block, thread + 1, copy, &mut lines)?;
+    }
+    if let Some(block) = script.block(Block::Finally) {
+        run_block(alloc, &mut plain, script, block, FINALLY_THREAD, variables, &mut lines)?;
+    }
     let last = plain.last()?;
     Ok(Ran {
         lines: Sequence::of(lines),
@@ -39,34 +49,39 @@ pub fn run_main(alloc: Global, script: &Script) -> Result<Ran, AllocError>
     })
 }
 
-/// Runs the block `main` to its end: its lines.
-fn run_block(alloc: Global, plain: &mut Plain, script: &Script) -> Result<Vec<Line>, AllocError>
-    requires { plain.old ≡ record { world = opening_of script.now; place = 0 } }
-    ensures { IfOk result (λ lines. IsRunOfMain script.now lines.items plain.new) }
-{
-    let variables = unbound(alloc, script.vars())?;
-    let mut thread = Thread::new(alloc, statements_of_main(script), variables)?;
-    let mut lines = Vec::with_capacity(alloc, most_lines(script))?;
+/// Runs a block to its end, as a thread that begins with these variables: those that it ends with. Its lines come after
+/// those that are there.
+fn run_block(
+    alloc: Global,
+    plain: &mut Plain,
+    script: &Script,
+    block: &[Stmt],
+    thread: u8,
+    variables: Vec<Option<Value>>,
+    lines: &mut Vec<Line>,
+) -> Result<Vec<Option<Value>>, AllocError> {
+    let mut executing = Thread::new(alloc, block, variables)?;
+    lines.reserve(most_lines(script))?;
+    let mut number = 0;
     loop {
-        match take_turn(plain, script, &mut thread)? {
-            Turn::Ended => return Ok(lines),
+        match take_turn(plain, script, &mut executing)? {
+            Turn::Ended => return Vec::from_slice(alloc, executing.variables()),
             Turn::Silent => {}
             Turn::Says(what) => {
-                let number = lines.len() as u32 + 1;
+                number += 1;
                 lines.push_reserved(Line {
                     what,
                     number,
-                    thread: MAIN_THREAD,
+                    thread,
                 });
             }
         }
     }
 }
 
-fn statements_of_main(script: &Script) -> &[Stmt]
-    ensures { result.now ≡ script.now.main }
-{
-    match script.block(Block::Main) {
+/// The statements of a block; none where the script has no such block.
+fn statements_of(script: &Script, block: Block) -> &[Stmt] {
+    match script.block(block) {
         Some(statements) => statements,
         None => &[],
     }

@@ -1,4 +1,12 @@
 mod Ascii
-mod Blocks
+mod Bases
+mod Begun
 mod Cuts
-mod Numerals
+mod Declared
+mod DeclaredBelow
+mod KeywordLemmas
+mod Limits
+mod LineIs
+mod LineLemmas
+mod Numbered
+mod Numbers

@@ -2,13 +2,21 @@
 //! text.
 #![tactic(auto)]
 
+mod examples;
 mod fault;
+mod forms;
+mod keyword;
+mod lines;
 mod literal;
+mod meaning;
 mod number;
-mod pieces;
+mod numbering;
+mod operands;
 mod reader;
 mod script;
-mod shape;
+mod so_far;
+mod stage;
+mod statements;
 mod stmt;
 mod tables;
 #[cfg(test)]

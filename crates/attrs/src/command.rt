@@ -13,7 +13,7 @@ use crate::gate::Gate;
 use crate::status::Status;
 use crate::telling::{refusal, tell};
 use crate::words::given_words;
-use at_run::run_main;
+use at_run::run_plain;
 use at_script::{Cause, ReadFault, Script};
 use at_source::{ReadAllFault, Sink, Source, read_all};
 use at_text::{PrintFault, print};
@@ -101,7 +101,7 @@ fn usage<K: Sink>(out: &mut K) -> Status
     }
 }
 
-/// Reads a script to the end of the source, runs its block `main` on the plain data model, and writes the transcript.
+/// Reads a script to the end of the source, runs it on the plain data model, and writes the transcript.
 /// It waits for nobody. Bytes that are no script, and more bytes than a script may have, are refused by a line on the
 /// sink. A fault is answered only where the source or the sink failed in this call, and what was written whole is
 /// flushed.
@@ -148,7 +148,7 @@ fn transcribe<K: Sink>(alloc: Global, bytes: &[u8], script: &Script, out: &mut K
         (sink_change K.written K.is_flushed K.faults out.old out.new) result }
     ensures later { K.faults out.old ≤ K.faults out.new }
 {
-    let Ok(ran) = run_main(alloc, script) else {
+    let Ok(ran) = run_plain(alloc, script) else {
         return Status::NoMemory;
     };
     match print(alloc, bytes, script, &ran, out) {
