@@ -11,6 +11,8 @@ use Rattle.at_script.specs.Script.{script_of, first_offence}
 use Rattle.at_text.specs.Transcript.{text}
 use Rattle.at_line.specs.declared.line.Line.{Line}
 use Rattle.at_model.specs.declared.last.Final as final
+use Rattle.at_run.specs.PlainRun.{IsPlainRun}
+use Rattle.at_run.specs.LegalRun.{IsLegalRun}
 use Rattle.attrs.specs.declared.status.Status as status
 use Rattle.attrs.specs.declared.status.Status.TheVariants as statuses
 
@@ -111,6 +113,10 @@ WroteNothing w = (w.after ≡ w.before) × (w.faults_after ≡ w.faults_before)
 -- which lines and last namespaces are a run of a script
 abbrev pub Running : Type 1
 Running = ScriptParts → List Line → final.Final → Type 0
+
+-- the plain run of a script, where it is legal
+abbrev pub IsPlainAndLegal : Running
+IsPlainAndLegal s lines last = IsPlainRun s lines last × IsLegalRun s lines last
 
 -- the text is the transcript of a run of the script that the bytes are
 abbrev pub IsTranscript : Running → List ℕ → List ℕ → Type 0

@@ -7,7 +7,7 @@ ghost use Rattle.at_run.specs.PlainRun.{IsPlainRun};
 ghost use Rattle.at_run.specs.LegalRun.{IsLegalRun};
 ghost use Rattle.attrs.specs.Answers.{SourceChange, source_change, sink_change, ReadNothing, ReadTooMany, Wrote};
 ghost use Rattle.attrs.specs.Answers.{FailedWriting, WroteNothing, IsAnswer, IsTextAnswer, IsUsageAnswer};
-ghost use Rattle.attrs.specs.Answers.{IsNoCommandAnswer, refusal_text};
+ghost use Rattle.attrs.specs.Answers.{IsNoCommandAnswer, IsPlainAndLegal, refusal_text};
 
 use crate::gate::Gate;
 use crate::status::Status;
@@ -106,7 +106,9 @@ fn usage<K: Sink>(out: &mut K) -> Status
 /// sink. A fault is answered only where the source or the sink failed in this call, and what was written whole is
 /// flushed.
 pub fn plain_text<S: Source, K: Sink>(alloc: Global, src: &mut S, out: &mut K) -> Status
-    ensures answer { IsAnswer IsPlainRun (source_change S.left S.faults src.old src.new)
+    ensures plain { IsAnswer IsPlainRun (source_change S.left S.faults src.old src.new)
+        (sink_change K.written K.is_flushed K.faults out.old out.new) result }
+    ensures legal { IsAnswer IsLegalRun (source_change S.left S.faults src.old src.new)
         (sink_change K.written K.is_flushed K.faults out.old out.new) result }
     ensures later { (S.faults src.old ≤ S.faults src.new) × (K.faults out.old ≤ K.faults out.new) }
 {
@@ -120,7 +122,7 @@ pub fn plain_text<S: Source, K: Sink>(alloc: Global, src: &mut S, out: &mut K) -
 
 fn too_long<K: Sink>(out: &mut K) -> Status
     ensures answer { (r : SourceChange) → ReadTooMany r →
-        IsAnswer IsPlainRun r (sink_change K.written K.is_flushed K.faults out.old out.new) result }
+        IsAnswer IsPlainAndLegal r (sink_change K.written K.is_flushed K.faults out.old out.new) result }
     ensures later { K.faults out.old ≤ K.faults out.new }
 {
     match tell(out, b"refused 0 long\n") {
@@ -131,7 +133,7 @@ fn too_long<K: Sink>(out: &mut K) -> Status
 
 /// Writes the transcript of the script of these bytes, or that they are no script.
 fn answer<K: Sink>(alloc: Global, bytes: &[u8], out: &mut K) -> Status
-    ensures answer { IsTextAnswer IsPlainRun bytes.now
+    ensures answer { IsTextAnswer IsPlainAndLegal bytes.now
         (sink_change K.written K.is_flushed K.faults out.old out.new) result }
     ensures later { K.faults out.old ≤ K.faults out.new }
 {
@@ -144,7 +146,7 @@ fn answer<K: Sink>(alloc: Global, bytes: &[u8], out: &mut K) -> Status
 
 fn transcribe<K: Sink>(alloc: Global, bytes: &[u8], script: &Script, out: &mut K) -> Status
     requires { script_of bytes.now ≡ Some script.now }
-    ensures answer { IsTextAnswer IsPlainRun bytes.now
+    ensures answer { IsTextAnswer IsPlainAndLegal bytes.now
         (sink_change K.written K.is_flushed K.faults out.old out.new) result }
     ensures later { K.faults out.old ≤ K.faults out.new }
 {

@@ -146,11 +146,7 @@ const TEXTS: [(&str, &str, Status); 5] = [
         Status::Good,
     ),
     (FIRST, TRANSCRIPT, Status::Good),
-    (
-        "",
-        "refused 1 header\n",
-        Status::Refused(1, Cause::Header),
-    ),
+    ("", "refused 1 header\n", Status::Refused(1, Cause::Header)),
     (
         "attrs 9\nmain\nend\n",
         "refused 1 header\n",
