@@ -10,3 +10,4 @@ mod LineIs
 mod LineLemmas
 mod Numbered
 mod Numbers
+mod Outcomes
