@@ -4,6 +4,7 @@ mod Begun
 mod Cuts
 mod Declared
 mod DeclaredBelow
+mod Extended
 mod KeywordLemmas
 mod Limits
 mod LineIs
@@ -11,3 +12,5 @@ mod LineLemmas
 mod Numbered
 mod Numbers
 mod Outcomes
+mod TakenClasses
+mod Takes

@@ -20,6 +20,10 @@ use Rattle.at_script.specs.Texts.{Texts, declared_by, declared_in, number_in}
 use Rattle.at_script.proofs.Numbered.{EachBelow, few_of}
 use Rattle.at_script.proofs.Begun.{IsBegun, begun_after}
 use Rattle.at_script.proofs.DeclaredBelow as declared_below_lemmas
+use Rattle.at_script.proofs.Outcomes.{both_chosen}
+use Rattle.at_script.proofs.Takes.{takes_both}
+use Rattle.at_script.proofs.TakenClasses.{takes_class}
+use Rattle.at_script.proofs.Extended.{Extends, extends_with_var, numbered_is, number_there, continues_added, added_both, continues_on, continues_itself}
 use Rattle.at_script.proofs.Limits.{no_limit, texts_within, after_texts, few_texts}
 use Rattle.at_script.specs.Script.{after, first_from, first_offence, script_in, script_of, IsScript, if_no_offence}
 use Rattle.at_script.specs.LineReading.{line_read, lines_read, end_read_at, then_lines, left_read, IfToldRead}
