@@ -13,4 +13,5 @@ mod Numbered
 mod Numbers
 mod Outcomes
 mod TakenClasses
+mod TakenNames
 mod Takes

@@ -15,7 +15,7 @@ use Rattle.at_script.specs.Taking.{Taken, wrong, mapped, made_of, both_taken}
 use Rattle.at_script.proofs.Outcomes.{chosen, both_chosen, mapped_unless}
 use Rattle.at_script.proofs.Extended.{added, added_both, longer, Continues, continues_on, continues_added, Extends}
 
-or-true : (a : Bool) → (a || true) ≡ true
+pub or-true : (a : Bool) → (a || true) ≡ true
 or-true true = refl
 or-true false = refl
 
