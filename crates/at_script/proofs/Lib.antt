@@ -14,4 +14,5 @@ mod Numbers
 mod Outcomes
 mod TakenClasses
 mod TakenNames
+mod TakenOwners
 mod Takes

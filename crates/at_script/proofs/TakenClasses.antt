@@ -22,10 +22,10 @@ use Rattle.at_script.proofs.Extended.{Extends, found_number}
 use Rattle.at_script.proofs.Takes.{Takes, takes_over, told_alone}
 
 -- a number that is cut twice
-class_again : (n : ℕ) → class_numbered (class_number n) ≡ class_numbered n
+pub class_again : (n : ℕ) → class_numbered (class_number n) ≡ class_numbered n
 class_again n = omega arith
 
-func_again : (n : ℕ) → func_numbered (func_number n) ≡ func_numbered n
+pub func_again : (n : ℕ) → func_numbered (func_number n) ≡ func_numbered n
 func_again n = omega arith
 
 -- A class
