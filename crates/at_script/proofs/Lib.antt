@@ -15,4 +15,5 @@ mod Outcomes
 mod TakenClasses
 mod TakenNames
 mod TakenOwners
+mod TakenValues
 mod Takes

@@ -23,7 +23,7 @@ use Rattle.at_script.proofs.DeclaredBelow as declared_below_lemmas
 use Rattle.at_script.proofs.Outcomes.{both_chosen}
 use Rattle.at_script.proofs.Takes.{takes_both}
 use Rattle.at_script.proofs.TakenNames.{takes_bound}
-use Rattle.at_script.proofs.TakenOwners.{takes_named}
+use Rattle.at_script.proofs.TakenValues.{takes_given}
 use Rattle.at_script.proofs.TakenClasses.{takes_class}
 use Rattle.at_script.proofs.Extended.{Extends, extends_with_var, numbered_is, number_there, continues_added, added_both, continues_on, continues_itself}
 use Rattle.at_script.proofs.Limits.{no_limit, texts_within, after_texts, few_texts}
