@@ -12,6 +12,8 @@ mod LineLemmas
 mod Numbered
 mod Numbers
 mod Outcomes
+mod StatementLines
+mod StatementRows
 mod TakenClasses
 mod TakenNames
 mod TakenOwners

@@ -24,6 +24,7 @@ use Rattle.at_script.proofs.Outcomes.{both_chosen}
 use Rattle.at_script.proofs.Takes.{takes_both}
 use Rattle.at_script.proofs.TakenNames.{takes_bound}
 use Rattle.at_script.proofs.TakenValues.{takes_given}
+use Rattle.at_script.proofs.StatementRows.{class_row}
 use Rattle.at_script.proofs.TakenClasses.{takes_class}
 use Rattle.at_script.proofs.Extended.{Extends, extends_with_var, numbered_is, number_there, continues_added, added_both, continues_on, continues_itself}
 use Rattle.at_script.proofs.Limits.{no_limit, texts_within, after_texts, few_texts}
