@@ -20,7 +20,7 @@ use Rattle.at_script.specs.Uses.{Use, uses_of, value_uses, given_uses}
 use Rattle.at_script.specs.State.{State}
 use Rattle.at_script.specs.Statements.{or_object, class_at, name_at, variable_at, target_at, operand_at, statement_of}
 use Rattle.at_script.specs.Script.{led_by, in_section, after_said}
-use Rattle.at_script.specs.Taking.{Taken, made_of, both_taken, class_taken, subject_taken, bases_taken, bound_taken, owner_taken, second_owner_taken, attribute_taken, class_attribute_taken, value_taken, given_taken}
+use Rattle.at_script.specs.Taking.{Taken, mapped, made_of, both_taken, class_taken, subject_taken, bases_taken, bound_taken, owner_taken, second_owner_taken, attribute_taken, class_attribute_taken, value_taken, given_taken}
 use Rattle.at_script.specs.Stating as stating
 use Rattle.at_script.specs.LineReading.{stage_after, section_after, statement_read, then_counted}
 use Rattle.at_script.proofs.Extended.{Extends}
@@ -132,3 +132,103 @@ module _ (s : State) (within : Extends s.texts s.texts) (free : (w : List ℕ) �
   class_row words count =
       let part : List ℕ × List (List ℕ) → Parted Stmt = λ p. made (λ (q : ℕ × List ℕ). statements.Class q.0 (or_object q.1)) (both (subject p.0) (bases p.1)) in
       formed_line s keywords.Class count (λ p. shapes.class p.0 p.1) (λ p. (part p).value) (stating.class_says (length s.texts.vars) s.texts) (shapes.class_and_bases words) (λ p to. refl) (λ p u. stays keywords.Class (λ b. refl) u) (λ p. (part p).told s.texts within)
+
+  pub bases_row : (words : List (List ℕ)) (count : ℕ) → Row keywords.Bases words count
+  bases_row words count =
+      let part : List ℕ × List (List ℕ) → Parted Stmt = λ p. made (λ (q : ℕ × List ℕ). statements.Bases q.0 q.1) (both (class p.0) (bases p.1)) in
+      formed_line s keywords.Bases count (λ p. shapes.bases p.0 p.1) (λ p. (part p).value) (stating.bases_say (length s.texts.vars) s.texts) (shapes.class_and_bases words) (λ p to. refl) (λ p u. stays keywords.Bases (λ b. refl) u) (λ p. (part p).told s.texts within)
+
+  pub put_row : (words : List (List ℕ)) (count : ℕ) → Row keywords.Put words count
+  put_row words count =
+      let part : (List ℕ × List ℕ) × Written → Parted Stmt = λ p. made (λ (q : (ℕ × ℕ) × operand.Operand). statements.Put q.0.0 q.0.1 q.1) (both (class_attribute p.0) (value p.1)) in
+      formed_line s keywords.Put count (λ p. shapes.put p.0.0 p.0.1 p.1) (λ p. (part p).value) (stating.put_says (length s.texts.vars) s.texts) (shapes.attribute_and_value words) (λ p to. refl) (λ p u. stays keywords.Put (λ b. refl) u) (λ p. (part p).told s.texts within)
+
+  pub cut_row : (words : List (List ℕ)) (count : ℕ) → Row keywords.Cut words count
+  cut_row words count =
+      let part : List ℕ × List ℕ → Parted Stmt = λ p. made (λ (q : ℕ × ℕ). statements.Cut q.0 q.1) (class_attribute p) in
+      formed_line s keywords.Cut count (λ p. shapes.cut p.0 p.1) (λ p. (part p).value) (stating.cut_says (length s.texts.vars) s.texts) (shapes.attribute words) (λ p to. refl) (λ p u. stays keywords.Cut (λ b. refl) u) (λ p. (part p).told s.texts within)
+
+  pub new_row : (words : List (List ℕ)) (count : ℕ) → Row keywords.New words count
+  new_row words count =
+      let part : (List ℕ × List ℕ) × Option Written → Parted Stmt = λ p. made (λ (q : (ℕ × ℕ) × Option operand.Operand). statements.New q.0.0 q.0.1 q.1) (both (both (bound p.0.0) (class p.0.1)) (given p.1)) in
+      formed_line s keywords.New count (λ p. shapes.new p.0.0 p.0.1 p.1) (λ p. (part p).value) (stating.new_says (length s.texts.vars) s.texts) (shapes.identifiers_and_given words) (λ p to. refl) (λ p u. stays keywords.New (λ b. refl) u) (λ p. (part p).told s.texts within)
+
+  pub set_row : (words : List (List ℕ)) (count : ℕ) → Row keywords.Set words count
+  set_row words count =
+      let part : (List ℕ × List ℕ) × Written → Parted Stmt = λ p. made (λ (q : (target.Target × ℕ) × operand.Operand). statements.Set q.0.0 q.0.1 q.1) (both (attribute p.0) (value p.1)) in
+      formed_line s keywords.Set count (λ p. shapes.set p.0.0 p.0.1 p.1) (λ p. (part p).value) (stating.set_says (length s.texts.vars) s.texts) (shapes.attribute_and_value words) (λ p to. refl) (λ p u. stays keywords.Set (λ b. refl) u) (λ p. (part p).told s.texts within)
+
+  pub del_row : (words : List (List ℕ)) (count : ℕ) → Row keywords.Del words count
+  del_row words count =
+      let part : List ℕ × List ℕ → Parted Stmt = λ p. made (λ (q : target.Target × ℕ). statements.Del q.0 q.1) (attribute p) in
+      formed_line s keywords.Del count (λ p. shapes.del p.0 p.1) (λ p. (part p).value) (λ p. made_of (λ q. statements.Del q.0 q.1) (attribute_taken s.texts p)) (shapes.attribute words) (λ p to. refl) (λ p u. stays keywords.Del (λ b. refl) u) (λ p. (part p).told s.texts within)
+
+  pub get_row : (words : List (List ℕ)) (count : ℕ) → Row keywords.Get words count
+  get_row words count =
+      let part : List ℕ × List ℕ → Parted Stmt = λ p. made (λ (q : target.Target × ℕ). statements.Get q.0 q.1) (attribute p) in
+      formed_line s keywords.Get count (λ p. shapes.get p.0 p.1) (λ p. (part p).value) (λ p. made_of (λ q. statements.Get q.0 q.1) (attribute_taken s.texts p)) (shapes.attribute words) (λ p to. refl) (λ p u. stays keywords.Get (λ b. refl) u) (λ p. (part p).told s.texts within)
+
+  pub special_row : (words : List (List ℕ)) (count : ℕ) → Row keywords.Special words count
+  special_row words count =
+      let part : List ℕ × List ℕ → Parted Stmt = λ p. made (λ (q : target.Target × ℕ). statements.Special q.0 q.1) (attribute p) in
+      formed_line s keywords.Special count (λ p. shapes.special p.0 p.1) (λ p. (part p).value) (λ p. made_of (λ q. statements.Special q.0 q.1) (attribute_taken s.texts p)) (shapes.attribute words) (λ p to. refl) (λ p u. stays keywords.Special (λ b. refl) u) (λ p. (part p).told s.texts within)
+
+  pub turn_row : (words : List (List ℕ)) (count : ℕ) → Row keywords.Turn words count
+  turn_row words count =
+      let part : List ℕ × List ℕ → Parted Stmt = λ p. made (λ (q : target.Target × ℕ). statements.Turn q.0 q.1) (both (owner p.0) (class p.1)) in
+      formed_line s keywords.Turn count (λ p. shapes.turn p.0 p.1) (λ p. (part p).value) (stating.turn_says (length s.texts.vars) s.texts) (shapes.identifiers words) (λ p to. refl) (λ p u. stays keywords.Turn (λ b. refl) u) (λ p. (part p).told s.texts within)
+
+  pub share_row : (words : List (List ℕ)) (count : ℕ) → Row keywords.Share words count
+  share_row words count =
+      let part : List ℕ × List ℕ → Parted Stmt = λ p. made (λ (q : target.Target × target.Target). statements.Share q.0 q.1) (both (owner p.0) (owner p.1)) in
+      formed_line s keywords.Share count (λ p. shapes.share p.0 p.1) (λ p. (part p).value) (stating.share_says s.texts) (shapes.identifiers words) (λ p to. refl) (λ p u. stays keywords.Share (λ b. refl) u) (λ p. (part p).told s.texts within)
+
+  pub super_row : (words : List (List ℕ)) (count : ℕ) → Row keywords.Super words count
+  super_row words count =
+      let part : List ℕ × (List ℕ × List ℕ) → Parted Stmt = λ p. made (λ (q : ℕ × (target.Target × ℕ)). statements.Super q.0 q.1.0 q.1.1) (both (class p.0) (attribute p.1)) in
+      formed_line s keywords.Super count (λ p. shapes.super_read p.0 p.1.0 p.1.1) (λ p. (part p).value) (stating.super_says (length s.texts.vars) s.texts) (shapes.identifier_and_attribute words) (λ p to. refl) (λ p u. stays keywords.Super (λ b. refl) u) (λ p. (part p).told s.texts within)
+
+  pub classof_row : (words : List (List ℕ)) (count : ℕ) → Row keywords.ClassOf words count
+  classof_row words count =
+      let part : List ℕ → Parted Stmt = λ p. made (λ (q : target.Target). statements.ClassOf q) (owner p) in
+      formed_line s keywords.ClassOf count (shapes.classof) (λ p. (part p).value) (λ w. made_of statements.ClassOf (owner_taken s.texts w)) (shapes.identifier words) (λ p to. refl) (λ p u. stays keywords.ClassOf (λ b. refl) u) (λ p. (part p).told s.texts within)
+
+  pub mro_row : (words : List (List ℕ)) (count : ℕ) → Row keywords.Mro words count
+  mro_row words count =
+      let part : List ℕ → Parted Stmt = λ p. made (λ (q : ℕ). statements.Mro q) (class p) in
+      formed_line s keywords.Mro count (shapes.mro) (λ p. (part p).value) (λ w. (mapped statements.Mro (class_taken (length s.texts.vars) s.texts w), s.texts)) (shapes.identifier words) (λ p to. refl) (λ p u. stays keywords.Mro (λ b. refl) u) (λ p. (part p).told s.texts within)
+
+  pub call_row : (words : List (List ℕ)) (count : ℕ) → Row keywords.Call words count
+  call_row words count =
+      let part : (List ℕ × List ℕ) × Option Written → Parted Stmt = λ p. made (λ (q : (target.Target × ℕ) × Option operand.Operand). statements.Call q.0.0 q.0.1 q.1) (both (attribute p.0) (given p.1)) in
+      formed_line s keywords.Call count (λ p. shapes.call p.0.0 p.0.1 p.1) (λ p. (part p).value) (stating.call_says (length s.texts.vars) s.texts) (shapes.attribute_and_given words) (λ p to. refl) (λ p u. stays keywords.Call (λ b. refl) u) (λ p. (part p).told s.texts within)
+
+  pub call_super_row : (words : List (List ℕ)) (count : ℕ) → Row keywords.CallSuper words count
+  call_super_row words count =
+      let part : List ℕ × (List ℕ × List ℕ) × Option Written → Parted Stmt = λ p. made (λ (q : (ℕ × (target.Target × ℕ)) × Option operand.Operand). statements.CallSuper q.0.0 q.0.1.0 q.0.1.1 q.1) (both (both (class p.0) (attribute p.1)) (given p.2)) in
+      formed_line s keywords.CallSuper count (λ p. shapes.super_call p.0 p.1.0 p.1.1 p.2) (λ p. (part p).value) (stating.call_super_says (length s.texts.vars) s.texts) (shapes.identifier_attribute_and_given words) (λ p to. refl) (λ p u. stays keywords.CallSuper (λ b. refl) u) (λ p. (part p).told s.texts within)
+
+  pub let_row : (words : List (List ℕ)) (count : ℕ) → Row keywords.Let words count
+  let_row words count =
+      let part : List ℕ × Written → Parted Stmt = λ p. made (λ (q : ℕ × operand.Operand). statements.Let q.0 q.1) (both (bound p.0) (value p.1)) in
+      formed_line s keywords.Let count (λ p. shapes.bind p.0 p.1) (λ p. (part p).value) (stating.let_says (length s.texts.vars) s.texts) (shapes.identifier_and_value words) (λ p to. refl) (λ p u. stays keywords.Let (λ b. refl) u) (λ p. (part p).told s.texts within)
+
+  pub return_row : (words : List (List ℕ)) (count : ℕ) → Row keywords.Return words count
+  return_row words count =
+      let part : Written → Parted Stmt = λ p. made (λ (q : operand.Operand). statements.Return q) (value p) in
+      formed_line s keywords.Return count (shapes.result) (λ p. (part p).value) (λ v. made_of statements.Return (value_taken (length s.texts.vars) s.texts v)) (shapes.value words) (λ p to. refl) (λ p u. stays keywords.Return (λ b. refl) u) (λ p. (part p).told s.texts within)
+
+  pub begin_row : (words : List (List ℕ)) (count : ℕ) → Row keywords.Begin words count
+  begin_row words count =
+      let part : List ℕ × Option (List ℕ) → Parted Stmt = λ p. made (λ (q : target.Target × Option target.Target). statements.Begin q.0 q.1) (both (owner p.0) (second_owner p.1)) in
+      formed_line s keywords.Begin count (λ p. shapes.begin p.0 p.1) (λ p. (part p).value) (stating.begin_says s.texts) (shapes.identifier_or_two words) (λ p to. refl) (λ p u. opens u) (λ p. (part p).told s.texts within)
+
+  pub finish_row : (words : List (List ℕ)) (count : ℕ) → Row keywords.Finish words count
+  finish_row [] count =
+      statement_line s keywords.Finish count shapes.finish (λ to. statements.Finish) (λ to. refl) (λ u. closes u) (Ok statements.Finish, s.texts) (told_alone s.texts (length s.bodies) [] (λ to. statements.Finish) s.texts (Ok statements.Finish) statements.Finish within refl refl (λ c to on. refl))
+  finish_row (word ∷ words) count = refl
+
+  pub checkpoint_row : (words : List (List ℕ)) (count : ℕ) → Row keywords.Checkpoint words count
+  checkpoint_row [] count =
+      statement_line s keywords.Checkpoint count shapes.checkpoint (λ to. statements.Checkpoint) (λ to. refl) (λ u. stays keywords.Checkpoint (λ b. refl) u) (Ok statements.Checkpoint, s.texts) (told_alone s.texts (length s.bodies) [] (λ to. statements.Checkpoint) s.texts (Ok statements.Checkpoint) statements.Checkpoint within refl refl (λ c to on. refl))
+  checkpoint_row (word ∷ words) count = refl
