@@ -1,6 +1,7 @@
 mod Ascii
 mod Bases
 mod Begun
+mod BlockLines
 mod Cuts
 mod Declared
 mod DeclaredBelow

@@ -198,7 +198,7 @@ module _ (first : Texts) (begun : ℕ) where
       subst (λ cs. P (record { classes = cs; funcs = t.funcs; names = t.names; vars = t.vars })) (sym at.classes)
       (subst (λ fs. P (record { classes = first.classes; funcs = fs; names = t.names; vars = t.vars })) (sym at.funcs) (h t.names t.vars)) at
 
-  few : (t : Texts) → Extends first t → are_too_many t ≡ false
+  pub few : (t : Texts) → Extends first t → are_too_many t ≡ false
   few t at =
       ap (λ b. b || ltb limits.most_variables (length t.vars)) (le-ltb widths.names (length t.names) at.names) ∙ le-ltb limits.most_variables (length t.vars) at.vars
 
