@@ -13,6 +13,7 @@ mod LineLemmas
 mod Numbered
 mod Numbers
 mod Outcomes
+mod Registers
 mod StatementLines
 mod StatementRows
 mod TakenClasses
