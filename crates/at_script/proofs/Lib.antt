@@ -8,6 +8,7 @@ mod DeclaredBelow
 mod Extended
 mod KeywordLemmas
 mod Limits
+mod LawLemmas
 mod LineIs
 mod LineLemmas
 mod Numbered
