@@ -92,12 +92,12 @@ module _ (s : State) (within : Extends s.texts s.texts) where
   budget_by count (Some z) =
       elim (cases_Bool (is_budget z)) [
         | inl e ↦
-          ap (λ r. then_counted count (mapped with_budget r)) (budgeted z true e)
-          ∙ limited false false count (with_budget (budget_of z)) (led_by (shapes.budget z) (blank count)) refl (same_block count (led_by (shapes.budget z)) (record (with_budget (budget_of z)) { bytes = s.bytes + count }) refl)
-          ∙ ap (λ b. answered (cond (not b || false) (Some causes.Number) (cond (is_over s count || false || are_too_many s.texts || false) (Some causes.Limit) None)) (led_by (shapes.budget z) (blank count))) (sym e)
+            ap (λ r. then_counted count (mapped with_budget r)) (budgeted z true e)
+            ∙ limited false false count (with_budget (budget_of z)) (led_by (shapes.budget z) (blank count)) refl (same_block count (led_by (shapes.budget z)) (record (with_budget (budget_of z)) { bytes = s.bytes + count }) refl)
+            ∙ ap (λ b. answered (cond (not b || false) (Some causes.Number) (cond (is_over s count || false || are_too_many s.texts || false) (Some causes.Limit) None)) (led_by (shapes.budget z) (blank count))) (sym e)
         | inr e ↦
-          ap (λ r. then_counted count (mapped with_budget r)) (budgeted z false e)
-          ∙ ap (λ b. answered (cond (not b || false) (Some causes.Number) (cond (is_over s count || false || are_too_many s.texts || false) (Some causes.Limit) None)) (led_by (shapes.budget z) (blank count))) (sym e)
+            ap (λ r. then_counted count (mapped with_budget r)) (budgeted z false e)
+            ∙ ap (λ b. answered (cond (not b || false) (Some causes.Number) (cond (is_over s count || false || are_too_many s.texts || false) (Some causes.Limit) None)) (led_by (shapes.budget z) (blank count))) (sym e)
       ]
 
   budget_line : (words : List (List ℕ)) (count : ℕ) → Line keywords.Budget words count

@@ -55,8 +55,8 @@ earlier_by old texts w v agrees more (Some n) h = agrees v
 earlier_by old texts w v agrees more None h =
     elim (cases_Bool (bytes_eq w v)) [
       | inl e ↦
-        let same : place_of v texts ≡ None = ap (λ u. place_of u texts) (sym ((bytes_eq-Decides w v).0 e)) ∙ h in
-        ap (is_below (length old)) (place_of-added v w texts e h) ∙ le-ltb (length texts) (length old) more ∙ sym (ap (is_below (length old)) same) ∙ agrees v
+          let same : place_of v texts ≡ None = ap (λ u. place_of u texts) (sym ((bytes_eq-Decides w v).0 e)) ∙ h in
+          ap (is_below (length old)) (place_of-added v w texts e h) ∙ le-ltb (length texts) (length old) more ∙ sym (ap (is_below (length old)) same) ∙ agrees v
       | inr e ↦ ap (is_below (length old)) (place_of-other v w texts (apart v w e)) ∙ agrees v
     ]
 

@@ -58,9 +58,9 @@ module _ (s : State) (within : Extends s.texts s.texts) (free : (w : List ℕ) �
   cause_by k said unknown =
       cond unknown (Some causes.Word)
       (cond (may_not_stand s.stage k) (Some causes.Place)
-        (cond (is_some k && is_none said) (Some causes.Form)
-          (chosen (list_any is_out_of_range (uses_said said)) (list_any (is_misnamed (length s.bodies) s.texts) (uses_said said)) (list_any (is_no_class s.texts) (uses_said said)) (list_any (is_no_function s.texts) (uses_said said))
-            (is_over s count || list_any (is_one_too_many s.texts) (uses_said said) || are_too_many (with_uses s.texts (uses_said said)) || begins_thread k && leb limits.most_threads (length s.threads)))))
+      (cond (is_some k && is_none said) (Some causes.Form)
+      (chosen (list_any is_out_of_range (uses_said said)) (list_any (is_misnamed (length s.bodies) s.texts) (uses_said said)) (list_any (is_no_class s.texts) (uses_said said)) (list_any (is_no_function s.texts) (uses_said said))
+      (is_over s count || list_any (is_one_too_many s.texts) (uses_said said) || are_too_many (with_uses s.texts (uses_said said)) || begins_thread k && leb limits.most_threads (length s.threads)))))
 
   nothing_read : then_counted count (Ok s) ≡ answered (cause_by None None false) counted_in
   nothing_read = limited s within false false count s counted_in refl refl
@@ -79,7 +79,7 @@ module _ (s : State) (within : Extends s.texts s.texts) (free : (w : List ℕ) �
 
   skipped_or_read : (word : List ℕ) (words : List (List ℕ)) (hash : Bool)
       → then_counted count (cond hash (Ok s) (keyword_found s (keyword_of word) words))
-          ≡ answered (cause_by (keyword_in (cond hash [] (word ∷ words))) (said_in (cond hash [] (word ∷ words))) (has_word (cond hash [] (word ∷ words)))) (after_said (said_in (cond hash [] (word ∷ words))) counted_in)
+      ≡ answered (cause_by (keyword_in (cond hash [] (word ∷ words))) (said_in (cond hash [] (word ∷ words))) (has_word (cond hash [] (word ∷ words)))) (after_said (said_in (cond hash [] (word ∷ words))) counted_in)
   skipped_or_read word words true = nothing_read
   skipped_or_read word words false = by_keyword (keyword_of word) words
 
@@ -94,7 +94,7 @@ allowed_by false r rest s h = refl
 -- the first line is the header
 header_is : (s : State) (within : Extends s.texts s.texts) (count : ℕ) (b : Bool)
     → then_counted count (cond b (Ok (record s { stage = stages.Opening })) (wrong causes.Header))
-        ≡ answered (cond (not b) (Some causes.Header) (cond (is_over s count || false || are_too_many s.texts || false) (Some causes.Limit) None)) (record s { stage = stages.Opening; bytes = s.bytes + count })
+    ≡ answered (cond (not b) (Some causes.Header) (cond (is_over s count || false || are_too_many s.texts || false) (Some causes.Limit) None)) (record s { stage = stages.Opening; bytes = s.bytes + count })
 header_is s within count true = limited s within false false count (record s { stage = stages.Opening }) (record s { stage = stages.Opening; bytes = s.bytes + count }) refl refl
 header_is s within count false = refl
 
@@ -199,9 +199,9 @@ declared_below number s (line ∷ lines) none =
     let later = declared_below (suc number) (after s line) lines first.1 in
     let kept = after_texts s line in
     let classes : EachBelow widths.classes s.texts.classes (declared_in (codes "class") lines) =
-        subst (λ (t : Texts). EachBelow widths.classes t.classes (declared_in (codes "class") lines)) kept later.0 in
+    subst (λ (t : Texts). EachBelow widths.classes t.classes (declared_in (codes "class") lines)) kept later.0 in
     let funcs : EachBelow widths.functions s.texts.funcs (declared_in (codes "func") lines) =
-        subst (λ (t : Texts). EachBelow widths.functions t.funcs (declared_in (codes "func") lines)) kept later.1 in
+    subst (λ (t : Texts). EachBelow widths.functions t.funcs (declared_in (codes "func") lines)) kept later.1 in
     (class_below s line lines clean classes, func_below s line lines clean funcs)
 
 -- a text without offence declares no more classes and functions than there may be
@@ -211,8 +211,7 @@ few_declared text none =
     let below = declared_below 1 (before_all lines) lines none in
     let same = fold_texts lines (before_all lines) in
     let classes = few_of widths.classes (codes "object" ∷ []) (declared_in (codes "class") lines) (omega arith) below.0 in
-    let funcs = few_of widths.functions [] (declared_in (codes "func") lines) (omega arith) below.1 in
-    (
+    let funcs = few_of widths.functions [] (declared_in (codes "func") lines) (omega arith) below.1 in (
       subst (λ (cs : List (List ℕ)). length cs ≤ widths.classes) (sym same.0) classes,
       subst (λ (fs : List (List ℕ)). length fs ≤ widths.functions) (sym same.1) funcs,
     )

@@ -147,10 +147,10 @@ number_stays word texts (text ∷ more) there =
     elim (is_some (place_of text texts)) as (λ b. position_or_len (bytes_eq word) (with_texts (cond b texts (texts ++ text ∷ [])) more) ≡ position_or_len (bytes_eq word) texts) [
       | true ↦ number_stays word texts more there
       | false ↦
-        let push = position_or_len_push (bytes_eq word) texts text in
-        let same : position_or_len (bytes_eq word) (texts ++ text ∷ []) ≡ position_or_len (bytes_eq word) texts =
-            push ∙ ap (λ b. cond b (length texts + cond (bytes_eq word text) 0 1) (position_or_len (bytes_eq word) texts)) (ne_eqb (position_or_len (bytes_eq word) texts) (length texts) (λ e. absurd (omega arith))) in
-        number_stays word (texts ++ text ∷ []) more (omega (arith, length-append texts (text ∷ []))) ∙ same
+          let push = position_or_len_push (bytes_eq word) texts text in
+          let same : position_or_len (bytes_eq word) (texts ++ text ∷ []) ≡ position_or_len (bytes_eq word) texts =
+          push ∙ ap (λ b. cond b (length texts + cond (bytes_eq word text) 0 1) (position_or_len (bytes_eq word) texts)) (ne_eqb (position_or_len (bytes_eq word) texts) (length texts) (λ e. absurd (omega arith))) in
+          number_stays word (texts ++ text ∷ []) more (omega (arith, length-append texts (text ∷ []))) ∙ same
     ]
 
 -- each of these stands below a place in the texts
@@ -172,15 +172,15 @@ few_of most texts (word ∷ words) small each =
     elim (is_some (place_of word texts)) as (λ b. is_some (place_of word texts) ≡ b → EachBelow most (with_texts (cond b texts (texts ++ word ∷ [])) words) (word ∷ words) → length (with_texts (cond b texts (texts ++ word ∷ [])) words) ≤ most) [
       | true ↦ λ is each. few_of most texts words small each.1
       | false ↦ λ is each.
-        let at_least = absent_at word texts is in
-        let within = place_within (bytes_eq word) texts in
-        let long : length (texts ++ word ∷ []) ≡ length texts + 1 = length-append texts (word ∷ []) in
-        let at_end : position_or_len (bytes_eq word) (texts ++ word ∷ []) ≡ length texts =
-            position_or_len_push (bytes_eq word) texts word
-            ∙ ap (λ b. cond b (length texts + cond (bytes_eq word word) 0 1) (position_or_len (bytes_eq word) texts)) (eq-eqb (position_or_len (bytes_eq word) texts) (length texts) (omega arith))
-            ∙ ap (λ b. length texts + cond b 0 1) (nat_list_eq_equiv.refl word)
-            ∙ (let e : length texts + 0 ≡ length texts = omega arith in e) in
-        let stays = number_stays word (texts ++ word ∷ []) words (omega arith) in
-        let below = each.0 in
-        few_of most (texts ++ word ∷ []) words (omega arith) each.1
+          let at_least = absent_at word texts is in
+          let within = place_within (bytes_eq word) texts in
+          let long : length (texts ++ word ∷ []) ≡ length texts + 1 = length-append texts (word ∷ []) in
+          let at_end : position_or_len (bytes_eq word) (texts ++ word ∷ []) ≡ length texts =
+          position_or_len_push (bytes_eq word) texts word
+          ∙ ap (λ b. cond b (length texts + cond (bytes_eq word word) 0 1) (position_or_len (bytes_eq word) texts)) (eq-eqb (position_or_len (bytes_eq word) texts) (length texts) (omega arith))
+          ∙ ap (λ b. length texts + cond b 0 1) (nat_list_eq_equiv.refl word)
+          ∙ (let e : length texts + 0 ≡ length texts = omega arith in e) in
+          let stays = number_stays word (texts ++ word ∷ []) words (omega arith) in
+          let below = each.0 in
+          few_of most (texts ++ word ∷ []) words (omega arith) each.1
     ] refl each

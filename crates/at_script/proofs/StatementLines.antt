@@ -39,7 +39,7 @@ abbrev pub cause_said : State → ℕ → Bool → Option Said → Option cause.
 cause_said s count thread o =
     cond (is_none o) (Some causes.Form)
     (chosen (list_any is_out_of_range (uses_said o)) (list_any (is_misnamed (length s.bodies) s.texts) (uses_said o)) (list_any (is_no_class s.texts) (uses_said o)) (list_any (is_no_function s.texts) (uses_said o))
-      (is_over s count || list_any (is_one_too_many s.texts) (uses_said o) || are_too_many (with_uses s.texts (uses_said o)) || thread))
+    (is_over s count || list_any (is_one_too_many s.texts) (uses_said o) || are_too_many (with_uses s.texts (uses_said o)) || thread))
 
 -- where nothing is wrong but that there may be too many, it is enough to see to that
 pub by_limit : (a b c d l m : Bool) (count : ℕ) (u v : State)
@@ -81,12 +81,12 @@ module _ (s : State) (k : keyword.Keyword) (count : ℕ) (said : Said) (f : Text
       let texts = clean.texts within in
       let value : statement_of found.1 said ≡ Some told.value = means found.1 ∙ ap Some (clean.means within found.1 (continues_itself found.1)) in
       sym (led (with_said said (record s { bytes = s.bytes + count }))
-        ∙ ap (λ (t : Texts). record s { bytes = s.bytes + count; texts = t; block = s.block ++ option_to_list (statement_of t said); stage = stage_after k s.stage }) (sym texts)
-        ∙ ap (λ (o : Option Stmt). record s { bytes = s.bytes + count; texts = found.1; block = s.block ++ option_to_list o; stage = stage_after k s.stage }) value)
+      ∙ ap (λ (t : Texts). record s { bytes = s.bytes + count; texts = t; block = s.block ++ option_to_list (statement_of t said); stage = stage_after k s.stage }) (sym texts)
+      ∙ ap (λ (o : Option Stmt). record s { bytes = s.bytes + count; texts = found.1; block = s.block ++ option_to_list o; stage = stage_after k s.stage }) value)
 
   by_told : (l : Bool) → told.limit ≡ l → IsToldClean s.texts (length s.bodies) (uses_of said) f s.texts found told.limit told.value
       → then_counted count (unless (cond l (Some causes.Limit) None) (made told.value))
-          ≡ answered (cond (is_over s count || list_any (is_one_too_many s.texts) (uses_of said) || are_too_many (with_uses s.texts (uses_of said)) || false) (Some causes.Limit) None) last
+      ≡ answered (cond (is_over s count || list_any (is_one_too_many s.texts) (uses_of said) || are_too_many (with_uses s.texts (uses_of said)) || false) (Some causes.Limit) None) last
   by_told true is clean =
       let above = one_above (is_over s count) (list_any (is_one_too_many s.texts) (uses_of said)) (are_too_many (with_uses s.texts (uses_of said))) (sym clean.limited ∙ is) in
       sym (ap (λ b. answered (cond b (Some causes.Limit) None) last) above)
@@ -101,8 +101,8 @@ module _ (s : State) (k : keyword.Keyword) (count : ℕ) (said : Said) (f : Text
       ap (λ r. then_counted count (mapped made r)) told.is
       ∙ ap (then_counted count) (mapped_unless made (chosen (any_number s.texts (length s.bodies) (uses_of said)) (any_name s.texts (length s.bodies) (uses_of said)) (any_class s.texts (length s.bodies) (uses_of said)) (any_func s.texts (length s.bodies) (uses_of said)) told.limit) told.value)
       ∙ by_limit (any_number s.texts (length s.bodies) (uses_of said)) (any_name s.texts (length s.bodies) (uses_of said)) (any_class s.texts (length s.bodies) (uses_of said)) (any_func s.texts (length s.bodies) (uses_of said)) told.limit
-        (is_over s count || list_any (is_one_too_many s.texts) (uses_of said) || are_too_many (with_uses s.texts (uses_of said)) || false) count (made told.value) last
-        (λ a b c d. by_told told.limit refl (told.clean (record { number = a; name = b; class = c; func = d })))
+      (is_over s count || list_any (is_one_too_many s.texts) (uses_of said) || are_too_many (with_uses s.texts (uses_of said)) || false) count (made told.value) last
+      (λ a b c d. by_told told.limit refl (told.clean (record { number = a; name = b; class = c; func = d })))
 
 -- a line of a form, or not
 pub formed_line : {P : Type 0} (s : State) (k : keyword.Keyword) (count : ℕ) (say : P → Said) (f : P → Texts → Stmt) (take : P → Taken Stmt) (o : Option P)

@@ -38,7 +38,7 @@ class_found_is earlier t w false None at below = rw below refl
 
 class_chosen : (x : ℕ) (free object : Bool) (f c : Option ℕ) (v : Bool)
     → cond (not free && not object) (wrong causes.Name) (cond (is_some (option_map func_number f)) (wrong causes.Name) (unless (cond (is_none c && v) (Some causes.Name) (cond (is_none c) (Some causes.Class) None)) x))
-        ≡ unless (chosen false ((not (free || object) || means_function (meaning_by f c) || (means_variable (meaning_by f c) && v)) || false) (is_none c || false) false false) x
+    ≡ unless (chosen false ((not (free || object) || means_function (meaning_by f c) || (means_variable (meaning_by f c) && v)) || false) (is_none c || false) false false) x
 class_chosen x false false f c v = refl
 class_chosen x true object (Some n) c v = refl
 class_chosen x true object None (Some n) v = refl
@@ -53,12 +53,12 @@ module _ (first : Texts) (begun : ℕ) where
   pub takes_class : (w : List ℕ) → Takes first begun (uses.class w ∷ []) (λ to. class_at to w) (λ t. (class_taken (length first.vars) t w, t))
   takes_class w =
       takes_over first begun (uses.class w ∷ []) (λ to. class_at to w) (λ t. (class_taken (length first.vars) t w, t)) (λ names vars at.
-        let t : Texts = record first { names = names; vars = vars } in
-        let v : Bool = is_some (place_of w first.vars) in
-        told_alone first begun (uses.class w ∷ []) (λ to. class_at to w) t (class_taken (length first.vars) t w) (class_at first w) at refl
-        (ap (λ r. cond (not (is_free w) && not (is_object w)) (wrong causes.Name) (cond (is_some (option_map func_number (place_of w first.funcs))) (wrong causes.Name) r)) (class_found_is (length first.vars) t w v (place_of w first.classes) refl (at.earlier w))
-          ∙ class_chosen (class_at first w) (is_free w) (is_object w) (place_of w first.funcs) (place_of w first.classes) v)
-        (λ c to on. ap (λ cs. class_numbered (number_in cs w)) on.classes))
+      let t : Texts = record first { names = names; vars = vars } in
+      let v : Bool = is_some (place_of w first.vars) in
+      told_alone first begun (uses.class w ∷ []) (λ to. class_at to w) t (class_taken (length first.vars) t w) (class_at first w) at refl
+      (ap (λ r. cond (not (is_free w) && not (is_object w)) (wrong causes.Name) (cond (is_some (option_map func_number (place_of w first.funcs))) (wrong causes.Name) r)) (class_found_is (length first.vars) t w v (place_of w first.classes) refl (at.earlier w))
+      ∙ class_chosen (class_at first w) (is_free w) (is_object w) (place_of w first.funcs) (place_of w first.classes) v)
+      (λ c to on. ap (λ cs. class_numbered (number_in cs w)) on.classes))
 
 -- A function
 
@@ -71,7 +71,7 @@ function_found_is earlier t w false None None at on below = rw (on, below) refl
 
 function_chosen : (x : ℕ) (free : Bool) (f c : Option ℕ) (v : Bool)
     → cond (not free) (wrong causes.Name) (unless (cond (is_none f && (is_some c || v)) (Some causes.Name) (cond (is_none f) (Some causes.Func) None)) x)
-        ≡ unless (chosen false ((not free || means_class (meaning_by f c) || (means_variable (meaning_by f c) && v)) || false) false (is_none f || false) false) x
+    ≡ unless (chosen false ((not free || means_class (meaning_by f c) || (means_variable (meaning_by f c) && v)) || false) false (is_none f || false) false) x
 function_chosen x false f c v = refl
 function_chosen x true (Some n) c v = refl
 function_chosen x true None (Some n) v = refl
@@ -82,12 +82,12 @@ module _ (first : Texts) (begun : ℕ) where
   pub takes_function : (w : List ℕ) → Takes first begun (uses.function w ∷ []) (λ to. func_at to w) (λ t. (function_taken (length first.vars) t w, t))
   takes_function w =
       takes_over first begun (uses.function w ∷ []) (λ to. func_at to w) (λ t. (function_taken (length first.vars) t w, t)) (λ names vars at.
-        let t : Texts = record first { names = names; vars = vars } in
-        let v : Bool = is_some (place_of w first.vars) in
-        told_alone first begun (uses.function w ∷ []) (λ to. func_at to w) t (function_taken (length first.vars) t w) (func_at first w) at refl
-        (ap (λ r. cond (not (is_free w)) (wrong causes.Name) r) (function_found_is (length first.vars) t w v (place_of w first.funcs) (place_of w first.classes) refl refl (at.earlier w))
-          ∙ function_chosen (func_at first w) (is_free w) (place_of w first.funcs) (place_of w first.classes) v)
-        (λ c to on. ap (λ fs. func_numbered (number_in fs w)) on.funcs))
+      let t : Texts = record first { names = names; vars = vars } in
+      let v : Bool = is_some (place_of w first.vars) in
+      told_alone first begun (uses.function w ∷ []) (λ to. func_at to w) t (function_taken (length first.vars) t w) (func_at first w) at refl
+      (ap (λ r. cond (not (is_free w)) (wrong causes.Name) r) (function_found_is (length first.vars) t w v (place_of w first.funcs) (place_of w first.classes) refl refl (at.earlier w))
+      ∙ function_chosen (func_at first w) (is_free w) (place_of w first.funcs) (place_of w first.classes) v)
+      (λ c to on. ap (λ fs. func_numbered (number_in fs w)) on.funcs))
 
 -- The class that a line makes
 
@@ -110,7 +110,7 @@ subject_is n = rw (class_cut n, class_again n) (elim (leb widths.classes n) as (
 
 subject_chosen : (x : ℕ) (free : Bool) (f c : Option ℕ) (l : Bool)
     → cond (not free) (wrong causes.Name) (cond (is_some (option_map func_number f)) (wrong causes.Name) (unless (cond l (Some causes.Limit) None) x))
-        ≡ unless (chosen false ((not free || means_function (meaning_by f c)) || false) false false (l || false)) x
+    ≡ unless (chosen false ((not free || means_function (meaning_by f c)) || false) false false (l || false)) x
 subject_chosen x false f c l = refl
 subject_chosen x true (Some n) c l = refl
 subject_chosen x true None (Some n) true = refl
@@ -122,9 +122,9 @@ module _ (first : Texts) (begun : ℕ) where
   pub takes_subject : (w : List ℕ) → Takes first begun (uses.subject w ∷ []) (λ to. class_at to w) (λ t. (subject_taken t w, t))
   takes_subject w =
       takes_over first begun (uses.subject w ∷ []) (λ to. class_at to w) (λ t. (subject_taken t w, t)) (λ names vars at.
-        let t : Texts = record first { names = names; vars = vars } in
-        told_alone first begun (uses.subject w ∷ []) (λ to. class_at to w) t (subject_taken t w) (class_at first w) at refl
-        (ap (λ n. cond (not (is_free w)) (wrong causes.Name) (cond (is_some (option_map func_number (place_of w first.funcs))) (wrong causes.Name) (subject_numbered n))) (number_or_next w first.classes class_number (place_of w first.classes) refl)
-          ∙ ap (λ r. cond (not (is_free w)) (wrong causes.Name) (cond (is_some (option_map func_number (place_of w first.funcs))) (wrong causes.Name) r)) (subject_is (number_in first.classes w))
-          ∙ subject_chosen (class_at first w) (is_free w) (place_of w first.funcs) (place_of w first.classes) (leb widths.classes (number_in first.classes w)))
-        (λ c to on. ap (λ cs. class_numbered (number_in cs w)) on.classes))
+      let t : Texts = record first { names = names; vars = vars } in
+      told_alone first begun (uses.subject w ∷ []) (λ to. class_at to w) t (subject_taken t w) (class_at first w) at refl
+      (ap (λ n. cond (not (is_free w)) (wrong causes.Name) (cond (is_some (option_map func_number (place_of w first.funcs))) (wrong causes.Name) (subject_numbered n))) (number_or_next w first.classes class_number (place_of w first.classes) refl)
+      ∙ ap (λ r. cond (not (is_free w)) (wrong causes.Name) (cond (is_some (option_map func_number (place_of w first.funcs))) (wrong causes.Name) r)) (subject_is (number_in first.classes w))
+      ∙ subject_chosen (class_at first w) (is_free w) (place_of w first.funcs) (place_of w first.classes) (leb widths.classes (number_in first.classes w)))
+      (λ c to on. ap (λ cs. class_numbered (number_in cs w)) on.classes))

@@ -62,8 +62,8 @@ module _ (first : Texts) (begun : ℕ) where
       limited = sym (ap (λ b. b || are_too_many (added first t us)) plain.4 ∙ ap are_too_many adds ∙ ap (λ b. b || ltb limits.most_variables (length (with_text t.vars w))) (le-ltb widths.names (length t.names) at.names) ∙ room);
       texts = λ e. ap (λ (r : Result ℕ LineFault × List (List ℕ)). record t { vars = r.1 }) is ∙ sym adds;
       means = λ e to on.
-        (let after = subst (λ (r : Result ℕ LineFault × List (List ℕ)). Continues (record t { vars = r.1 }) to) is on in
-        means to after ∙ ap g (after.vars w (number_there w t.vars)));
+          (let after = subst (λ (r : Result ℕ LineFault × List (List ℕ)). Continues (record t { vars = r.1 }) to) is on in
+          means to after ∙ ap g (after.vars w (number_there w t.vars)));
     };
   }
 
@@ -101,8 +101,8 @@ module _ (first : Texts) (begun : ℕ) where
       limited = sym (ap (λ b. b || are_too_many (added first t us)) plain.4 ∙ ap are_too_many adds ∙ ap (λ b. b || ltb limits.most_variables (length t.vars)) room ∙ le-ltb limits.most_variables (length t.vars) at.vars);
       texts = λ e. ap (λ (r : Result ℕ LineFault × List (List ℕ)). record t { names = r.1 }) is ∙ sym adds;
       means = λ e to on.
-        (let after = subst (λ (r : Result ℕ LineFault × List (List ℕ)). Continues (record t { names = r.1 }) to) is on in
-        means to ∙ ap g (after.names w (number_there w t.names)));
+          (let after = subst (λ (r : Result ℕ LineFault × List (List ℕ)). Continues (record t { names = r.1 }) to) is on in
+          means to ∙ ap g (after.names w (number_there w t.names)));
     };
   }
 
@@ -130,29 +130,29 @@ module _ (first : Texts) (begun : ℕ) where
   pub takes_bound : (w : List ℕ) → Takes first begun (uses.variable w ∷ []) (λ to. variable_at to w) (λ t. bound_taken t w)
   takes_bound w =
       takes_over first begun (uses.variable w ∷ []) (λ to. variable_at to w) (λ t. bound_taken t w) (λ names vars at.
-        let t : Texts = record first { names = names; vars = vars } in
-        let name : any_name first begun (uses.variable w ∷ []) ≡ is_bound_name w = bound_name (is_free w) (place_of w first.funcs) (place_of w first.classes) in
-        elim (cases_Bool (is_bound_name w)) [
-          | inl e ↦
+      let t : Texts = record first { names = names; vars = vars } in
+      let name : any_name first begun (uses.variable w ∷ []) ≡ is_bound_name w = bound_name (is_free w) (place_of w first.funcs) (place_of w first.classes) in
+      elim (cases_Bool (is_bound_name w)) [
+        | inl e ↦
             subst (λ b. IsTold first begun (uses.variable w ∷ []) (λ to. variable_at to w) t (cond b (wrong causes.Name, t) (variable_numbered t w))) (sym e)
             (told_misnamed first begun (uses.variable w ∷ []) (λ to. variable_at to w) t 0 at refl (name ∙ e))
-          | inr e ↦
+        | inr e ↦
             subst (λ b. IsTold first begun (uses.variable w ∷ []) (λ to. variable_at to w) t (cond b (wrong causes.Name, t) (variable_numbered t w))) (sym e)
             (subst (λ (r : Result ℕ LineFault). IsTold first begun (uses.variable w ∷ []) (λ to. variable_at to w) t (r, (variable_numbered t w).1)) (mapped_same (variable_numbered t w).0)
             (told_var (uses.variable w ∷ []) (λ to. variable_at to w) (λ n. n) w t at (refl, name ∙ e, refl, refl, refl) refl (λ to on. refl)))
-        ])
+      ])
 
   -- the name of an attribute
   pub takes_attribute_name : (w : List ℕ) → Takes first begun (uses.attribute w ∷ []) (λ to. name_at to w) (λ t. attribute_name_taken t w)
   takes_attribute_name w t at =
       elim (cases_Bool (is_attribute_name w)) [
         | inl e ↦
-          subst (λ b. IsTold first begun (uses.attribute w ∷ []) (λ to. name_at to w) t (cond b (name_numbered t w) (wrong causes.Name, t))) (sym e)
-          (subst (λ (r : Result ℕ LineFault). IsTold first begun (uses.attribute w ∷ []) (λ to. name_at to w) t (r, (name_numbered t w).1)) (mapped_same (name_numbered t w).0)
-          (told_name (uses.attribute w ∷ []) (λ to. name_at to w) (λ n. n) w t at (refl, ap (λ b. not b || false) e, refl, refl, refl) refl (λ to. refl)))
+            subst (λ b. IsTold first begun (uses.attribute w ∷ []) (λ to. name_at to w) t (cond b (name_numbered t w) (wrong causes.Name, t))) (sym e)
+            (subst (λ (r : Result ℕ LineFault). IsTold first begun (uses.attribute w ∷ []) (λ to. name_at to w) t (r, (name_numbered t w).1)) (mapped_same (name_numbered t w).0)
+            (told_name (uses.attribute w ∷ []) (λ to. name_at to w) (λ n. n) w t at (refl, ap (λ b. not b || false) e, refl, refl, refl) refl (λ to. refl)))
         | inr e ↦
-          subst (λ b. IsTold first begun (uses.attribute w ∷ []) (λ to. name_at to w) t (cond b (name_numbered t w) (wrong causes.Name, t))) (sym e)
-          (told_misnamed first begun (uses.attribute w ∷ []) (λ to. name_at to w) t 0 at refl (ap (λ b. not b || false) e))
+            subst (λ b. IsTold first begun (uses.attribute w ∷ []) (λ to. name_at to w) t (cond b (name_numbered t w) (wrong causes.Name, t))) (sym e)
+            (told_misnamed first begun (uses.attribute w ∷ []) (λ to. name_at to w) t 0 at refl (ap (λ b. not b || false) e))
       ]
 
   -- a text
@@ -160,9 +160,9 @@ module _ (first : Texts) (begun : ℕ) where
   takes_text w t at =
       elim (cases_Bool (is_free w)) [
         | inl e ↦
-          subst (λ b. IsTold first begun (uses.text w ∷ []) (λ to. operands.Value (values.Text (name_at to w))) t (cond b (made_of (λ n. operands.Value (values.Text n)) (name_numbered t w)) (wrong causes.Name, t))) (sym e)
-          (told_name (uses.text w ∷ []) (λ to. operands.Value (values.Text (name_at to w))) (λ n. operands.Value (values.Text n)) w t at (refl, ap (λ b. not b || false) e, refl, refl, refl) refl (λ to. refl))
+            subst (λ b. IsTold first begun (uses.text w ∷ []) (λ to. operands.Value (values.Text (name_at to w))) t (cond b (made_of (λ n. operands.Value (values.Text n)) (name_numbered t w)) (wrong causes.Name, t))) (sym e)
+            (told_name (uses.text w ∷ []) (λ to. operands.Value (values.Text (name_at to w))) (λ n. operands.Value (values.Text n)) w t at (refl, ap (λ b. not b || false) e, refl, refl, refl) refl (λ to. refl))
         | inr e ↦
-          subst (λ b. IsTold first begun (uses.text w ∷ []) (λ to. operands.Value (values.Text (name_at to w))) t (cond b (made_of (λ n. operands.Value (values.Text n)) (name_numbered t w)) (wrong causes.Name, t))) (sym e)
-          (told_misnamed first begun (uses.text w ∷ []) (λ to. operands.Value (values.Text (name_at to w))) t operands.SelfArg at refl (ap (λ b. not b || false) e))
+            subst (λ b. IsTold first begun (uses.text w ∷ []) (λ to. operands.Value (values.Text (name_at to w))) t (cond b (made_of (λ n. operands.Value (values.Text n)) (name_numbered t w)) (wrong causes.Name, t))) (sym e)
+            (told_misnamed first begun (uses.text w ∷ []) (λ to. operands.Value (values.Text (name_at to w))) t operands.SelfArg at refl (ap (λ b. not b || false) e))
       ]

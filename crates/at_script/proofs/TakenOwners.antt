@@ -48,7 +48,7 @@ four_none p q r s z false false false true h = absurd cc
 
 owner_by : (t : Texts) (w : List ℕ) (a b c d : Bool)
     → register_owner t w (four a b c d (Some registers.SelfArg) (Some registers.Arg) (Some registers.Other) (Some registers.It) None)
-        ≡ cond (a || b || c || d) (Ok (four a b c d targets.SelfArg targets.Arg targets.Other targets.It targets.It), t) (named_owner t w)
+    ≡ cond (a || b || c || d) (Ok (four a b c d targets.SelfArg targets.Arg targets.Other targets.It targets.It), t) (named_owner t w)
 owner_by t w true b c d = refl
 owner_by t w false true c d = refl
 owner_by t w false false true d = refl
@@ -57,7 +57,7 @@ owner_by t w false false false false = refl
 
 value_by : (t : Texts) (w : List ℕ) (a b c d : Bool)
     → register_value t w (four a b c d (Some registers.SelfArg) (Some registers.Arg) (Some registers.Other) (Some registers.It) None)
-        ≡ cond (a || b || c || d) (Ok (four a b c d operands.SelfArg operands.Arg operands.Other operands.It operands.It), t) (named_value t w)
+    ≡ cond (a || b || c || d) (Ok (four a b c d operands.SelfArg operands.Arg operands.Other operands.It operands.It), t) (named_value t w)
 value_by t w true b c d = refl
 value_by t w false true c d = refl
 value_by t w false false true d = refl
@@ -73,9 +73,9 @@ register_short w h =
         | inr e' ↦ elim (cases_Bool (bytes_eq w (codes "other"))) [
           | inl e'' ↦ ap is_short ((bytes_eq-Decides w (codes "other")).0 e'')
           | inr e'' ↦
-            let last : bytes_eq w (codes "it") ≡ true =
-                sym (ap (λ x. x || bytes_eq w (codes "arg") || bytes_eq w (codes "other") || bytes_eq w (codes "it")) e ∙ ap (λ x. x || bytes_eq w (codes "other") || bytes_eq w (codes "it")) e' ∙ ap (λ x. x || bytes_eq w (codes "it")) e'') ∙ h in
-            ap is_short ((bytes_eq-Decides w (codes "it")).0 last)
+              let last : bytes_eq w (codes "it") ≡ true =
+              sym (ap (λ x. x || bytes_eq w (codes "arg") || bytes_eq w (codes "other") || bytes_eq w (codes "it")) e ∙ ap (λ x. x || bytes_eq w (codes "other") || bytes_eq w (codes "it")) e' ∙ ap (λ x. x || bytes_eq w (codes "it")) e'') ∙ h in
+              ap is_short ((bytes_eq-Decides w (codes "it")).0 last)
         ]
       ]
     ]
@@ -148,30 +148,30 @@ module _ (first : Texts) (begun : ℕ) where
   pub takes_owner : ((w : List ℕ) → is_register w ≡ true → place_of w first.funcs ≡ None) → (w : List ℕ) → Takes first begun (uses.owner w ∷ []) (λ to. target_at to w) (λ t. owner_taken t w)
   takes_owner free w =
       takes_over first begun (uses.owner w ∷ []) (λ to. target_at to w) (λ t. owner_taken t w) (λ names vars at.
-        let t : Texts = record first { names = names; vars = vars } in
-        let whole = owner_by t w (bytes_eq w (codes "self")) (bytes_eq w (codes "arg")) (bytes_eq w (codes "other")) (bytes_eq w (codes "it")) in
-        let register : target.Target =
-            four (bytes_eq w (codes "self")) (bytes_eq w (codes "arg")) (bytes_eq w (codes "other")) (bytes_eq w (codes "it")) targets.SelfArg targets.Arg targets.Other targets.It targets.It in
-        elim (cases_Bool (is_register w)) [
-          | inl e ↦
+      let t : Texts = record first { names = names; vars = vars } in
+      let whole = owner_by t w (bytes_eq w (codes "self")) (bytes_eq w (codes "arg")) (bytes_eq w (codes "other")) (bytes_eq w (codes "it")) in
+      let register : target.Target =
+      four (bytes_eq w (codes "self")) (bytes_eq w (codes "arg")) (bytes_eq w (codes "other")) (bytes_eq w (codes "it")) targets.SelfArg targets.Arg targets.Other targets.It targets.It in
+      elim (cases_Bool (is_register w)) [
+        | inl e ↦
             let fine : any_name first begun (uses.owner w ∷ []) ≡ false =
-                ap (λ b. owner_name w b (meaning_of first w)) e
-                ∙ ap (λ o. owner_name w true (meaning_by o (place_of w first.classes))) (free w e)
-                ∙ none_misnamed (is_free w) (is_object w) (place_of w first.classes) in
+            ap (λ b. owner_name w b (meaning_of first w)) e
+            ∙ ap (λ o. owner_name w true (meaning_by o (place_of w first.classes))) (free w e)
+            ∙ none_misnamed (is_free w) (is_object w) (place_of w first.classes) in
             subst (IsTold first begun (uses.owner w ∷ []) (λ to. target_at to w) t) (sym (whole ∙ ap (λ b. cond b (Ok register, t) (named_owner t w)) e))
             (told_alone first begun (uses.owner w ∷ []) (λ to. target_at to w) t (Ok register) register at (adds_none t w e) (rw fine refl)
-              (λ clean to on. four_some targets.SelfArg targets.Arg targets.Other targets.It targets.It (targeted_by to w (meaning_of to w)) (bytes_eq w (codes "self")) (bytes_eq w (codes "arg")) (bytes_eq w (codes "other")) (bytes_eq w (codes "it")) e))
-          | inr e ↦
+            (λ clean to on. four_some targets.SelfArg targets.Arg targets.Other targets.It targets.It (targeted_by to w (meaning_of to w)) (bytes_eq w (codes "self")) (bytes_eq w (codes "arg")) (bytes_eq w (codes "other")) (bytes_eq w (codes "it")) e))
+        | inr e ↦
             subst (IsTold first begun (uses.owner w ∷ []) (λ to. target_at to w) t) (sym (whole ∙ ap (λ b. cond b (Ok register, t) (named_owner t w)) e))
             (elim (cases_Bool (not (is_free w) && not (is_object w))) [
               | inl e' ↦
-                subst (λ b. IsTold first begun (uses.owner w ∷ []) (λ to. target_at to w) t (cond b (wrong causes.Name, t) (cond (is_some (option_map func_number (place_of w first.funcs))) (wrong causes.Name, t) (class_owner t w (option_map class_number (place_of w first.classes)))))) (sym e')
-                (told_misnamed first begun (uses.owner w ∷ []) (λ to. target_at to w) t targets.It at refl (owner_named w (meaning_of first w) e refl ∙ misnamed_owner (is_free w) (is_object w) (meaning_of first w) e'))
+                  subst (λ b. IsTold first begun (uses.owner w ∷ []) (λ to. target_at to w) t (cond b (wrong causes.Name, t) (cond (is_some (option_map func_number (place_of w first.funcs))) (wrong causes.Name, t) (class_owner t w (option_map class_number (place_of w first.classes)))))) (sym e')
+                  (told_misnamed first begun (uses.owner w ∷ []) (λ to. target_at to w) t targets.It at refl (owner_named w (meaning_of first w) e refl ∙ misnamed_owner (is_free w) (is_object w) (meaning_of first w) e'))
               | inr e' ↦
-                subst (λ b. IsTold first begun (uses.owner w ∷ []) (λ to. target_at to w) t (cond b (wrong causes.Name, t) (cond (is_some (option_map func_number (place_of w first.funcs))) (wrong causes.Name, t) (class_owner t w (option_map class_number (place_of w first.classes)))))) (sym e')
-                (owner_by_places w t refl refl at e e' (place_of w first.funcs) (place_of w first.classes) refl refl)
+                  subst (λ b. IsTold first begun (uses.owner w ∷ []) (λ to. target_at to w) t (cond b (wrong causes.Name, t) (cond (is_some (option_map func_number (place_of w first.funcs))) (wrong causes.Name, t) (class_owner t w (option_map class_number (place_of w first.classes)))))) (sym e')
+                  (owner_by_places w t refl refl at e e' (place_of w first.funcs) (place_of w first.classes) refl refl)
             ])
-        ])
+      ])
     where
       none_misnamed : (free object : Bool) (c : Option ℕ) → (not (free || true || object) || means_function (meaning_by None c) || false) ≡ false
       none_misnamed true object (Some n) = refl
@@ -216,24 +216,24 @@ module _ (first : Texts) (begun : ℕ) where
   pub takes_named : (w : List ℕ) → Takes first begun (uses.value w ∷ []) (λ to. named_at to w) (λ t. register_value t w (register_in w))
   takes_named w =
       takes_over first begun (uses.value w ∷ []) (λ to. named_at to w) (λ t. register_value t w (register_in w)) (λ names vars at.
-        let t : Texts = record first { names = names; vars = vars } in
-        let whole = value_by t w (bytes_eq w (codes "self")) (bytes_eq w (codes "arg")) (bytes_eq w (codes "other")) (bytes_eq w (codes "it")) in
-        let register : operand.Operand =
-            four (bytes_eq w (codes "self")) (bytes_eq w (codes "arg")) (bytes_eq w (codes "other")) (bytes_eq w (codes "it")) operands.SelfArg operands.Arg operands.Other operands.It operands.It in
-        elim (cases_Bool (is_register w)) [
-          | inl e ↦
+      let t : Texts = record first { names = names; vars = vars } in
+      let whole = value_by t w (bytes_eq w (codes "self")) (bytes_eq w (codes "arg")) (bytes_eq w (codes "other")) (bytes_eq w (codes "it")) in
+      let register : operand.Operand =
+      four (bytes_eq w (codes "self")) (bytes_eq w (codes "arg")) (bytes_eq w (codes "other")) (bytes_eq w (codes "it")) operands.SelfArg operands.Arg operands.Other operands.It operands.It in
+      elim (cases_Bool (is_register w)) [
+        | inl e ↦
             let fine : any_name first begun (uses.value w ∷ []) ≡ false = ap (λ b. not b || false) (register_short w e) in
             subst (IsTold first begun (uses.value w ∷ []) (λ to. named_at to w) t) (sym (whole ∙ ap (λ b. cond b (Ok register, t) (named_value t w)) e))
             (told_alone first begun (uses.value w ∷ []) (λ to. named_at to w) t (Ok register) register at (adds_none t w e) (rw fine refl)
-              (λ clean to on. four_some operands.SelfArg operands.Arg operands.Other operands.It operands.It (named_by to w (meaning_of to w)) (bytes_eq w (codes "self")) (bytes_eq w (codes "arg")) (bytes_eq w (codes "other")) (bytes_eq w (codes "it")) e))
-          | inr e ↦
+            (λ clean to on. four_some operands.SelfArg operands.Arg operands.Other operands.It operands.It (named_by to w (meaning_of to w)) (bytes_eq w (codes "self")) (bytes_eq w (codes "arg")) (bytes_eq w (codes "other")) (bytes_eq w (codes "it")) e))
+        | inr e ↦
             subst (IsTold first begun (uses.value w ∷ []) (λ to. named_at to w) t) (sym (whole ∙ ap (λ b. cond b (Ok register, t) (named_value t w)) e))
             (elim (cases_Bool (is_short w)) [
               | inl e' ↦
-                subst (λ b. IsTold first begun (uses.value w ∷ []) (λ to. named_at to w) t (cond b (numbered_value t w (option_map func_number (place_of w first.funcs))) (wrong causes.Name, t))) (sym e')
-                (value_by_places w t refl refl at e e' (place_of w first.funcs) (place_of w first.classes) refl refl refl)
+                  subst (λ b. IsTold first begun (uses.value w ∷ []) (λ to. named_at to w) t (cond b (numbered_value t w (option_map func_number (place_of w first.funcs))) (wrong causes.Name, t))) (sym e')
+                  (value_by_places w t refl refl at e e' (place_of w first.funcs) (place_of w first.classes) refl refl refl)
               | inr e' ↦
-                subst (λ b. IsTold first begun (uses.value w ∷ []) (λ to. named_at to w) t (cond b (numbered_value t w (option_map func_number (place_of w first.funcs))) (wrong causes.Name, t))) (sym e')
-                (told_misnamed first begun (uses.value w ∷ []) (λ to. named_at to w) t operands.It at refl (ap (λ b. not b || false) e'))
+                  subst (λ b. IsTold first begun (uses.value w ∷ []) (λ to. named_at to w) t (cond b (numbered_value t w (option_map func_number (place_of w first.funcs))) (wrong causes.Name, t))) (sym e')
+                  (told_misnamed first begun (uses.value w ∷ []) (λ to. named_at to w) t operands.It at refl (ap (λ b. not b || false) e'))
             ])
-        ])
+      ])

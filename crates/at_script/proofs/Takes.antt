@@ -35,9 +35,9 @@ module _ (first : Texts) where
       elim (cases_Bool (ltb widths.names (length t.names))) [
         | inl e ↦ ap (λ b. b || vars) (lt-ltb widths.names (length (added first t vs).names) (omega (arith, ltb-true widths.names (length t.names) e, longer t.names (flat_map names_in vs))))
         | inr e ↦
-          let many : ltb limits.most_variables (length t.vars) ≡ true = sym (ap (λ b. b || ltb limits.most_variables (length t.vars)) e) ∙ h in
-          ap (λ b. ltb widths.names (length (added first t vs).names) || b) (lt-ltb limits.most_variables (length (added first t vs).vars) (omega (arith, ltb-true limits.most_variables (length t.vars) many, longer t.vars (flat_map (variables_in first) vs))))
-          ∙ or-true (ltb widths.names (length (added first t vs).names))
+            let many : ltb limits.most_variables (length t.vars) ≡ true = sym (ap (λ b. b || ltb limits.most_variables (length t.vars)) e) ∙ h in
+            ap (λ b. ltb widths.names (length (added first t vs).names) || b) (lt-ltb limits.most_variables (length (added first t vs).vars) (omega (arith, ltb-true limits.most_variables (length t.vars) many, longer t.vars (flat_map (variables_in first) vs))))
+            ∙ or-true (ltb widths.names (length (added first t vs).names))
       ]
 
 -- The texts before the line, and so many functions begun.
@@ -136,12 +136,12 @@ module _ (first : Texts) (begun : ℕ) where
   limited_first t us vs h =
       elim (cases_Bool (list_any (is_one_too_many first) us)) [
         | inl e ↦
-          let one : list_any (is_one_too_many first) (us ++ vs) ≡ true = list_any-append (is_one_too_many first) us vs ∙ ap (λ b. b || list_any (is_one_too_many first) vs) e in
-          ap (λ b. b || are_too_many (added first t (us ++ vs))) one
+            let one : list_any (is_one_too_many first) (us ++ vs) ≡ true = list_any-append (is_one_too_many first) us vs ∙ ap (λ b. b || list_any (is_one_too_many first) vs) e in
+            ap (λ b. b || are_too_many (added first t (us ++ vs))) one
         | inr e ↦
-          let many : are_too_many (added first t us) ≡ true = sym (ap (λ b. b || are_too_many (added first t us)) e) ∙ h in
-          let still : are_too_many (added first t (us ++ vs)) ≡ true = ap are_too_many (added_both first t us vs) ∙ too_many_stay first (added first t us) vs many in
-          ap (λ b. list_any (is_one_too_many first) (us ++ vs) || b) still ∙ or-true (list_any (is_one_too_many first) (us ++ vs))
+            let many : are_too_many (added first t us) ≡ true = sym (ap (λ b. b || are_too_many (added first t us)) e) ∙ h in
+            let still : are_too_many (added first t (us ++ vs)) ≡ true = ap are_too_many (added_both first t us vs) ∙ too_many_stay first (added first t us) vs many in
+            ap (λ b. list_any (is_one_too_many first) (us ++ vs) || b) still ∙ or-true (list_any (is_one_too_many first) (us ++ vs))
       ]
 
   limited_second : (t : Texts) (us vs : List Use) → is_limited t us ≡ false → is_limited t (us ++ vs) ≡ is_limited (added first t us) vs
@@ -163,10 +163,10 @@ module _ (first : Texts) (begun : ℕ) where
         limited = k.limited ∙ ap (λ u. is_limited u vs) same ∙ sym (limited_second t us vs (sym h.limited));
         texts = λ e. k.texts e ∙ ap (λ u. added first u vs) same ∙ sym (added_both first t us vs);
         means = λ e to on.
-          (let step : Continues a.1 b.1 = subst (Continues a.1) (sym (k.texts e)) (continues_added first a.1 vs) in
-          let one = h.means refl to (continues_on a.1 b.1 to step on) in
-          let two = k.means e to on in
-          rw (one, two) refl);
+            (let step : Continues a.1 b.1 = subst (Continues a.1) (sym (k.texts e)) (continues_added first a.1 vs) in
+            let one = h.means refl to (continues_on a.1 b.1 to step on) in
+            let two = k.means e to on in
+            rw (one, two) refl);
       }
 
   -- one part and then another
@@ -179,10 +179,10 @@ module _ (first : Texts) (begun : ℕ) where
         limit = a.limit || b.limit;
         value = (a.value, b.value);
         is =
-          ap (λ r. both_of r (next (take t).1).0) a.is
-          ∙ ap (λ r. both_of (unless (chosen (any_number us) (any_name us) (any_class us) (any_func us) a.limit) a.value) r) b.is
-          ∙ both_chosen a.value b.value (any_number us) (any_name us) (any_class us) (any_func us) a.limit (any_number vs) (any_name vs) (any_class vs) (any_func vs) b.limit
-          ∙ ap (λ o. unless o (a.value, b.value)) (joined_causes us vs (a.limit || b.limit));
+            ap (λ r. both_of r (next (take t).1).0) a.is
+            ∙ ap (λ r. both_of (unless (chosen (any_number us) (any_name us) (any_class us) (any_func us) a.limit) a.value) r) b.is
+            ∙ both_chosen a.value b.value (any_number us) (any_name us) (any_class us) (any_func us) a.limit (any_number vs) (any_name vs) (any_class vs) (any_func vs) b.limit
+            ∙ ap (λ o. unless o (a.value, b.value)) (joined_causes us vs (a.limit || b.limit));
         kept = b.kept;
         clean = λ c. both_clean us vs f g t (take t) (next (take t).1) a.limit b.limit a.value b.value (a.clean (clean_first us vs c)) (b.clean (clean_second us vs c));
       }

@@ -31,7 +31,7 @@ abbrev pub OffenceIsTheFirst : Type 0
 OffenceIsTheFirst =
     (text : List ℕ) (line : ℕ) (c : cause.Cause)
     → (first_offence text ≡ Some (line, c))
-        ↔ ((n : ℕ) × (line ≡ suc n) × (n ≤ length (lines_of text)) × (cause_at text n ≡ Some c) × IsCleanBefore text n)
+    ↔ ((n : ℕ) × (line ≡ suc n) × (n ≤ length (lines_of text)) × (cause_at text n ≡ Some c) × IsCleanBefore text n)
 
 -- Texts that declare the same, and that are alike up to the first line with an offence, have the same first offence: what
 -- stands behind it changes nothing but by what it declares.
