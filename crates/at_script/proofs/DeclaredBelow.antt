@@ -47,12 +47,12 @@ class_in t (word ∷ []) form limit w e =
 class_in t (word ∷ name ∷ rest) form limit w e =
     elim (cases_Bool (bytes_eq word (codes "class"))) [
       | inl is ↦
-        let same = (bytes_eq-Decides word (codes "class")).0 is in
-        let Form : List ℕ → Type 0 = λ k. has_form (k ∷ name ∷ rest) ≡ false in
-        let Limit : List ℕ → Type 0 = λ k. list_any (is_one_too_many t) (uses_said (said_in (k ∷ name ∷ rest))) ≡ false in
-        let low = class_named t name rest (subst Form same form) (subst Limit same limit) in
-        let there : cond (is_identifier name && is_free name) (Some name) None ≡ Some w = sym (ap (λ b. cond b (cond (is_identifier name && is_free name) (Some name) None) None) is) ∙ e in
-        named_is w name (is_identifier name && is_free name) there low
+          let same = (bytes_eq-Decides word (codes "class")).0 is in
+          let Form : List ℕ → Type 0 = λ k. has_form (k ∷ name ∷ rest) ≡ false in
+          let Limit : List ℕ → Type 0 = λ k. list_any (is_one_too_many t) (uses_said (said_in (k ∷ name ∷ rest))) ≡ false in
+          let low = class_named t name rest (subst Form same form) (subst Limit same limit) in
+          let there : cond (is_identifier name && is_free name) (Some name) None ≡ Some w = sym (ap (λ b. cond b (cond (is_identifier name && is_free name) (Some name) None) None) is) ∙ e in
+          named_is w name (is_identifier name && is_free name) there low
       | inr other ↦ absurd (let none : None ≡ Some w = sym (ap (λ b. cond b (declared_name (name ∷ rest)) None) other) ∙ e in cc)
     ]
   where
@@ -67,9 +67,9 @@ skipped_none t ([] ∷ rest) is = refl
 skipped_none t ((b ∷ bs) ∷ rest) is =
     elim (cases_Bool (bytes_eq (b ∷ bs) (codes "class"))) [
       | inl same ↦
-        let word = (bytes_eq-Decides (b ∷ bs) (codes "class")).0 same in
-        let no : false ≡ true = subst (λ (w : List ℕ). is_skipped (w ∷ rest) ≡ true) word is in
-        absurd cc
+          let word = (bytes_eq-Decides (b ∷ bs) (codes "class")).0 same in
+          let no : false ≡ true = subst (λ (w : List ℕ). is_skipped (w ∷ rest) ≡ true) word is in
+          absurd cc
       | inr other ↦ ap (λ c. cond c (declared_name rest) None) other
     ]
 
@@ -121,7 +121,7 @@ class_of_line s line clean w e =
     let limit = no_limit s line clean in
     let many = or-second _ _ (first-false _ _ (first-false _ _ limit)) in
     let at_first : is_first s.stage ≡ true → declared_by (codes "class") words ≡ None =
-        λ is. header_none words (sym (ap (λ b. b && not (are_words (codes "attrs") (codes "1") (two_parts words))) is) ∙ header) in
+    λ is. header_none words (sym (ap (λ b. b && not (are_words (codes "attrs") (codes "1") (two_parts words))) is) ∙ header) in
     read_by (is_first s.stage) (is_skipped words) s.texts words w at_first (skipped_none s.texts words) form many e
 
 -- The same of a line that declares a function.
@@ -155,12 +155,12 @@ func_in t (word ∷ []) form limit w e =
 func_in t (word ∷ name ∷ rest) form limit w e =
     elim (cases_Bool (bytes_eq word (codes "func"))) [
       | inl is ↦
-        let same = (bytes_eq-Decides word (codes "func")).0 is in
-        let Form : List ℕ → Type 0 = λ k. has_form (k ∷ name ∷ rest) ≡ false in
-        let Limit : List ℕ → Type 0 = λ k. list_any (is_one_too_many t) (uses_said (said_in (k ∷ name ∷ rest))) ≡ false in
-        let low = func_words t name rest (subst Form same form) (subst Limit same limit) in
-        let there : cond (is_identifier name && is_free name) (Some name) None ≡ Some w = sym (ap (λ b. cond b (cond (is_identifier name && is_free name) (Some name) None) None) is) ∙ e in
-        named_is w name (is_identifier name && is_free name) there low
+          let same = (bytes_eq-Decides word (codes "func")).0 is in
+          let Form : List ℕ → Type 0 = λ k. has_form (k ∷ name ∷ rest) ≡ false in
+          let Limit : List ℕ → Type 0 = λ k. list_any (is_one_too_many t) (uses_said (said_in (k ∷ name ∷ rest))) ≡ false in
+          let low = func_words t name rest (subst Form same form) (subst Limit same limit) in
+          let there : cond (is_identifier name && is_free name) (Some name) None ≡ Some w = sym (ap (λ b. cond b (cond (is_identifier name && is_free name) (Some name) None) None) is) ∙ e in
+          named_is w name (is_identifier name && is_free name) there low
       | inr other ↦ absurd (let none : None ≡ Some w = sym (ap (λ b. cond b (declared_name (name ∷ rest)) None) other) ∙ e in cc)
     ]
   where
@@ -175,9 +175,9 @@ skipped_no_func t ([] ∷ rest) is = refl
 skipped_no_func t ((b ∷ bs) ∷ rest) is =
     elim (cases_Bool (bytes_eq (b ∷ bs) (codes "func"))) [
       | inl same ↦
-        let word = (bytes_eq-Decides (b ∷ bs) (codes "func")).0 same in
-        let no : false ≡ true = subst (λ (w : List ℕ). is_skipped (w ∷ rest) ≡ true) word is in
-        absurd cc
+          let word = (bytes_eq-Decides (b ∷ bs) (codes "func")).0 same in
+          let no : false ≡ true = subst (λ (w : List ℕ). is_skipped (w ∷ rest) ≡ true) word is in
+          absurd cc
       | inr other ↦ ap (λ c. cond c (declared_name rest) None) other
     ]
 
@@ -211,5 +211,5 @@ func_of_line s line clean w e =
     let limit = no_limit s line clean in
     let many = or-second _ _ (first-false _ _ (first-false _ _ limit)) in
     let at_first : is_first s.stage ≡ true → declared_by (codes "func") words ≡ None =
-        λ is. header_no_func words (sym (ap (λ b. b && not (are_words (codes "attrs") (codes "1") (two_parts words))) is) ∙ header) in
+    λ is. header_no_func words (sym (ap (λ b. b && not (are_words (codes "attrs") (codes "1") (two_parts words))) is) ∙ header) in
     func_read_by (is_first s.stage) (is_skipped words) s.texts words w at_first (skipped_no_func s.texts words) form many e

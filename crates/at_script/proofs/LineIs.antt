@@ -1,48 +1,132 @@
 -- What the reader makes of a line is what the definitions say of it.
-use Rattle.std.proofs.Common.{◌≡◌, ◌∙◌, ap, refl, sym, subst, ℕ, suc, zero, ◌+◌, ◌<◌, ◌≤◌, arith, List, [], ◌∷◌, length, codes, Option, Some, None, Result, Ok, Err}
-use Rattle.std.specs.List.{fold, cons_option}
+use Rattle.std.proofs.Common.{◌≡◌, ◌∙◌, ap, refl, sym, subst, ℕ, suc, zero, ◌+◌, ◌<◌, ◌≤◌, arith, List, [], ◌∷◌, length, codes, Option, Some, None, is_some, is_none, Bool, true, false, cond, not, ◌||◌, ◌&&◌, leb, Result, Ok, Err}
+use Rattle.std.specs.List.{fold, cons_option, list_all, list_any}
 use Rattle.std.specs.Result.{IsErrAnd, IfErr}
 use Rattle.std.specs.Option.{option_map}
 use Rattle.at_value.specs.Widths as widths
 use Rattle.at_script.specs.declared.fault.Cause as cause
+use Rattle.at_script.specs.declared.fault.Cause.TheVariants as causes
 use Rattle.at_script.specs.declared.fault.LineFault.{LineFault}
 use Rattle.at_script.specs.declared.fault.LineFault.TheVariants.{Wrong, NoMemory}
 use Rattle.at_script.specs.declared.fault.ReadFault.{ReadFault}
 use Rattle.at_script.specs.declared.fault.ReadFault.TheVariants as read_faults
+use Rattle.at_script.specs.declared.keyword.Keyword as keyword
+use Rattle.at_script.specs.declared.stage.Stage as stage
+use Rattle.at_script.specs.declared.stage.Stage.TheVariants as stages
+use Rattle.at_name.specs.Texts.{place_of}
 use Rattle.at_script.specs.Faults.{IsFaultAt}
 use Rattle.at_script.specs.Limits as limits
-use Rattle.at_script.specs.Lines.{lines_of, words_in}
+use Rattle.at_script.specs.Lines.{lines_of, words_in, is_allowed, is_skipped, begins_with_hash}
+use Rattle.at_script.specs.Keywords.{keyword_of}
+use Rattle.at_script.specs.Pieces.{two_parts}
+use Rattle.at_script.specs.Words.{is_register}
+use Rattle.at_script.specs.Shapes.{Said, words_say}
+use Rattle.at_script.specs.Uses.{with_uses}
+use Rattle.at_script.specs.Taking.{wrong}
 use Rattle.at_script.specs.Literals.{or}
-use Rattle.at_script.specs.Stages.{end_cause}
+use Rattle.at_script.specs.Stages.{may_stand, end_cause}
 use Rattle.at_script.specs.State.{State, before_all, parts_of}
-use Rattle.at_script.specs.Causes.{cause_of, are_too_many}
+use Rattle.at_script.specs.Causes.{cause_of, is_first, may_not_stand, has_word, keyword_in, says_after, said_in, uses_said, are_words, begins_thread, is_out_of_range, is_misnamed, is_no_class, is_no_function, is_one_too_many, are_too_many}
 use Rattle.at_script.specs.Texts.{Texts, declared_by, declared_in, number_in}
 use Rattle.at_script.proofs.Numbered.{EachBelow, few_of}
-use Rattle.at_script.proofs.Begun.{IsBegun, begun_after}
+use Rattle.at_script.proofs.Begun.{IsBegun, at_most, begun_after}
 use Rattle.at_script.proofs.DeclaredBelow as declared_below_lemmas
+use Rattle.at_script.proofs.Outcomes.{chosen}
+use Rattle.at_script.proofs.Registers.{register_absent}
+use Rattle.at_script.proofs.StatementLines.{answered, is_over, cause_said}
+use Rattle.at_script.proofs.BlockLines.{keyword_line, limited}
+use Rattle.at_script.proofs.Extended.{Extends, extends_itself}
 use Rattle.at_script.proofs.Limits.{no_limit, texts_within, after_texts, few_texts}
-use Rattle.at_script.specs.Script.{after, first_from, first_offence, script_in, script_of, IsScript, if_no_offence}
-use Rattle.at_script.specs.LineReading.{line_read, lines_read, end_read_at, then_lines, left_read, IfToldRead}
+use Rattle.at_script.specs.Script.{after, after_said, first_from, first_offence, script_in, script_of, IsScript, if_no_offence}
+use Rattle.at_script.specs.LineReading.{line_read, words_read, keyword_read, keyword_found, then_counted, lines_read, end_read_at, then_lines, left_read, IfToldRead}
 
 -- no more names and variables than there may be, and no more functions were begun
 pub record IsFine (s : State) : Type 0 where
   pub names : length s.texts.names ≤ widths.names
   pub vars : length s.texts.vars ≤ limits.most_variables
   pub begun : IsBegun s.stage (length s.bodies)
+  pub registers : (w : List ℕ) → is_register w ≡ true → place_of w s.texts.funcs ≡ None
 
-abbrev pub answered : Option cause.Cause → State → Result State LineFault
-answered None s = Ok s
-answered (Some c) s = Err (Wrong c)
+-- The words of a line
+
+module _ (s : State) (within : Extends s.texts s.texts) (free : (w : List ℕ) → is_register w ≡ true → place_of w s.texts.funcs ≡ None) (begun : length s.bodies ≤ widths.functions) (count : ℕ) where
+  abbrev counted_in : State
+  counted_in = record s { bytes = s.bytes + count }
+
+  -- the first cause from the first word on
+  abbrev cause_by : Option keyword.Keyword → Option Said → Bool → Option cause.Cause
+  cause_by k said unknown =
+      cond unknown (Some causes.Word)
+      (cond (may_not_stand s.stage k) (Some causes.Place)
+      (cond (is_some k && is_none said) (Some causes.Form)
+      (chosen (list_any is_out_of_range (uses_said said)) (list_any (is_misnamed (length s.bodies) s.texts) (uses_said said)) (list_any (is_no_class s.texts) (uses_said said)) (list_any (is_no_function s.texts) (uses_said said))
+      (is_over s count || list_any (is_one_too_many s.texts) (uses_said said) || are_too_many (with_uses s.texts (uses_said said)) || begins_thread k && leb limits.most_threads (length s.threads)))))
+
+  nothing_read : then_counted count (Ok s) ≡ answered (cause_by None None false) counted_in
+  nothing_read = limited s within false false count s counted_in refl refl
+
+  found_line : (k : keyword.Keyword) (words : List (List ℕ)) (may : Bool) → may_stand s.stage k ≡ may
+      → then_counted count (cond may (keyword_read s k words) (wrong causes.Place)) ≡ answered (cond (not may) (Some causes.Place) (cause_said s count (begins_thread (Some k) && leb limits.most_threads (length s.threads)) (words_say k words))) (after_said (words_say k words) counted_in)
+  found_line k words true is = keyword_line s within free begun k words count
+  found_line k words false is = refl
+
+  by_keyword : (o : Option keyword.Keyword) (words : List (List ℕ)) → then_counted count (keyword_found s o words) ≡ answered (cause_by o (says_after o words) (is_none o)) (after_said (says_after o words) counted_in)
+  by_keyword None words = refl
+  by_keyword (Some k) words = found_line k words (may_stand s.stage k) refl
+
+  abbrev Read : List (List ℕ) → List (List ℕ) → Type 0
+  Read all words = then_counted count (words_read s all) ≡ answered (cause_by (keyword_in words) (said_in words) (has_word words)) (after_said (said_in words) counted_in)
+
+  skipped_or_read : (word : List ℕ) (words : List (List ℕ)) (hash : Bool)
+      → then_counted count (cond hash (Ok s) (keyword_found s (keyword_of word) words))
+      ≡ answered (cause_by (keyword_in (cond hash [] (word ∷ words))) (said_in (cond hash [] (word ∷ words))) (has_word (cond hash [] (word ∷ words)))) (after_said (said_in (cond hash [] (word ∷ words))) counted_in)
+  skipped_or_read word words true = nothing_read
+  skipped_or_read word words false = by_keyword (keyword_of word) words
+
+  words_are : (words : List (List ℕ)) → Read words (cond (is_skipped words) [] words)
+  words_are [] = nothing_read
+  words_are (word ∷ words) = skipped_or_read word words (begins_with_hash word)
+
+allowed_by : (b : Bool) (r : Result State LineFault) (rest : Option cause.Cause) (s : State) → r ≡ answered rest s → cond b r (wrong causes.Byte) ≡ answered (cond (not b) (Some causes.Byte) rest) s
+allowed_by true r rest s h = h
+allowed_by false r rest s h = refl
+
+-- the first line is the header
+header_is : (s : State) (within : Extends s.texts s.texts) (count : ℕ) (b : Bool)
+    → then_counted count (cond b (Ok (record s { stage = stages.Opening })) (wrong causes.Header))
+    ≡ answered (cond (not b) (Some causes.Header) (cond (is_over s count || false || are_too_many s.texts || false) (Some causes.Limit) None)) (record s { stage = stages.Opening; bytes = s.bytes + count })
+header_is s within count true = limited s within false false count (record s { stage = stages.Opening }) (record s { stage = stages.Opening; bytes = s.bytes + count }) refl refl
+header_is s within count false = refl
+
+module _ (s : State) (line : List ℕ) (within : Extends s.texts s.texts) (free : (w : List ℕ) → is_register w ≡ true → place_of w s.texts.funcs ≡ None) (begun : length s.bodies ≤ widths.functions) where
+  abbrev at_stage : stage.Stage → State
+  at_stage at = record s { stage = at }
+
+  abbrev count : ℕ
+  count = length line
+
+  line_at : (at : stage.Stage) → line_read (at_stage at) line ≡ answered (cause_of (at_stage at) line) (after (at_stage at) line)
+  line_at stages.Header = allowed_by (list_all is_allowed line) _ _ _ (header_is (at_stage stages.Header) within count (are_words (codes "attrs") (codes "1") (two_parts (words_in line))))
+  line_at stages.Opening = allowed_by (list_all is_allowed line) _ _ _ (words_are (at_stage stages.Opening) within free begun count (words_in line))
+  line_at stages.Functions = allowed_by (list_all is_allowed line) _ _ _ (words_are (at_stage stages.Functions) within free begun count (words_in line))
+  line_at (stages.Within kind section) = allowed_by (list_all is_allowed line) _ _ _ (words_are (at_stage (stages.Within kind section)) within free begun count (words_in line))
+  line_at stages.Ending = allowed_by (list_all is_allowed line) _ _ _ (words_are (at_stage stages.Ending) within free begun count (words_in line))
+  line_at stages.Closed = allowed_by (list_all is_allowed line) _ _ _ (words_are (at_stage stages.Closed) within free begun count (words_in line))
 
 -- a line is read as its first cause says, or what comes after it
 pub line_is : (s : State) (line : List ℕ) → IsFine s → line_read s line ≡ answered (cause_of s line) (after s line)
-line_is s line fine = ?
+line_is s line fine = line_at s line (extends_itself s.texts fine.names fine.vars) fine.registers (at_most s.stage (length s.bodies) fine.begun) s.stage
 
 -- a line without offence leaves the state fine
 pub fine_after : (s : State) (line : List ℕ) → IsFine s → cause_of s line ≡ None → IsFine (after s line)
 fine_after s line fine none =
     let texts = few_texts (after s line).texts (ap are_too_many (after_texts s line) ∙ texts_within s line (no_limit s line none)) in
-    record { names = texts.0; vars = texts.1; begun = begun_after s line none fine.begun }
+    record {
+      names = texts.0;
+      vars = texts.1;
+      begun = begun_after s line none fine.begun;
+      registers = λ w is. ap (λ (t : Texts). place_of w t.funcs) (after_texts s line) ∙ fine.registers w is;
+    }
 
 abbrev pub told_by : Option (ℕ × cause.Cause) → State → Result State ReadFault
 told_by None s = Ok s
@@ -67,7 +151,7 @@ lines_are number s (line ∷ lines) fine =
 
 -- before the first line the state is fine
 pub fine_before : (lines : List (List ℕ)) → IsFine (before_all lines)
-fine_before lines = record { names = omega arith; vars = omega arith; begun = omega arith }
+fine_before lines = record { names = omega arith; vars = omega arith; begun = omega arith; registers = λ w is. register_absent w is (codes "func") lines [] refl }
 
 -- what the text says after its last line
 abbrev pub last_state : List ℕ → State
@@ -115,9 +199,9 @@ declared_below number s (line ∷ lines) none =
     let later = declared_below (suc number) (after s line) lines first.1 in
     let kept = after_texts s line in
     let classes : EachBelow widths.classes s.texts.classes (declared_in (codes "class") lines) =
-        subst (λ (t : Texts). EachBelow widths.classes t.classes (declared_in (codes "class") lines)) kept later.0 in
+    subst (λ (t : Texts). EachBelow widths.classes t.classes (declared_in (codes "class") lines)) kept later.0 in
     let funcs : EachBelow widths.functions s.texts.funcs (declared_in (codes "func") lines) =
-        subst (λ (t : Texts). EachBelow widths.functions t.funcs (declared_in (codes "func") lines)) kept later.1 in
+    subst (λ (t : Texts). EachBelow widths.functions t.funcs (declared_in (codes "func") lines)) kept later.1 in
     (class_below s line lines clean classes, func_below s line lines clean funcs)
 
 -- a text without offence declares no more classes and functions than there may be
@@ -127,8 +211,7 @@ few_declared text none =
     let below = declared_below 1 (before_all lines) lines none in
     let same = fold_texts lines (before_all lines) in
     let classes = few_of widths.classes (codes "object" ∷ []) (declared_in (codes "class") lines) (omega arith) below.0 in
-    let funcs = few_of widths.functions [] (declared_in (codes "func") lines) (omega arith) below.1 in
-    (
+    let funcs = few_of widths.functions [] (declared_in (codes "func") lines) (omega arith) below.1 in (
       subst (λ (cs : List (List ℕ)). length cs ≤ widths.classes) (sym same.0) classes,
       subst (λ (fs : List (List ℕ)). length fs ≤ widths.functions) (sym same.1) funcs,
     )

@@ -32,12 +32,12 @@ module _ (p : List ℕ → Bool) (xs : List (List ℕ)) (y : List ℕ) (other : 
             rw (same, lt-ltb (position_or_len p xs) (length (xs ++ y ∷ [])) (omega arith), lt-ltb (position_or_len p xs) (length xs) less) refl
       ]
 
-place_within : (p : List ℕ → Bool) (xs : List (List ℕ)) → position_or_len p xs ≤ length xs
+pub place_within : (p : List ℕ → Bool) (xs : List (List ℕ)) → position_or_len p xs ≤ length xs
 place_within p [] = omega arith
 place_within p (x ∷ xs) = elim (cases_Bool (p x)) [ inl e ↦ rw e (omega arith) | inr e ↦ rw e (omega (arith, place_within p xs)) ]
 
 -- the place of another text is as before
-place_of-other : (word text : List ℕ) (texts : List (List ℕ)) → bytes_eq word text ≡ false → place_of word (texts ++ text ∷ []) ≡ place_of word texts
+pub place_of-other : (word text : List ℕ) (texts : List (List ℕ)) → bytes_eq word text ≡ false → place_of word (texts ++ text ∷ []) ≡ place_of word texts
 place_of-other word text texts other = position-other (bytes_eq word) texts text other (place_within (bytes_eq word) texts)
 
 position-added : (p : List ℕ → Bool) (xs : List (List ℕ)) (y : List ℕ) → p y ≡ true → position p xs ≡ None → position p (xs ++ y ∷ []) ≡ Some (length xs)
@@ -49,15 +49,15 @@ position-added p xs y here absent =
     position_or_len_push p xs y ∙ ap (λ b. cond b (length xs + cond (p y) 0 1) (position_or_len p xs)) (eq-eqb (position_or_len p xs) (length xs) (omega arith)) ∙ ap (λ b. length xs + cond b 0 1) here ∙ (let e : length xs + 0 ≡ length xs = omega arith in e) in
     rw (at_end, lt-ltb (length xs) (length (xs ++ y ∷ [])) (omega arith)) refl
 
-place_of-push : (text : List ℕ) (texts : List (List ℕ)) → place_of text texts ≡ None → place_of text (texts ++ text ∷ []) ≡ Some (length texts)
+pub place_of-push : (text : List ℕ) (texts : List (List ℕ)) → place_of text texts ≡ None → place_of text (texts ++ text ∷ []) ≡ Some (length texts)
 place_of-push text texts absent = position-added (bytes_eq text) texts text (nat_list_eq_equiv.refl text) absent
 
 -- a new text stands at the end
-place_of-added : (word text : List ℕ) (texts : List (List ℕ)) → bytes_eq text word ≡ true → place_of text texts ≡ None → place_of word (texts ++ text ∷ []) ≡ Some (length texts)
+pub place_of-added : (word text : List ℕ) (texts : List (List ℕ)) → bytes_eq text word ≡ true → place_of text texts ≡ None → place_of word (texts ++ text ∷ []) ≡ Some (length texts)
 place_of-added word text texts same absent =
     ap (λ w. place_of w (texts ++ text ∷ [])) (sym ((bytes_eq-Decides text word).0 same)) ∙ place_of-push text texts absent
 
-apart : (word text : List ℕ) → bytes_eq text word ≡ false → bytes_eq word text ≡ false
+pub apart : (word text : List ℕ) → bytes_eq text word ≡ false → bytes_eq word text ≡ false
 apart word text other = false_from_ne_true (bytes_eq word text) (λ same. both_ways (bytes_eq text word) other ((bytes_eq-Decides text word).1 (sym ((bytes_eq-Decides word text).0 same))))
 
 -- What the table says of each identifier after one is set.
@@ -147,10 +147,10 @@ number_stays word texts (text ∷ more) there =
     elim (is_some (place_of text texts)) as (λ b. position_or_len (bytes_eq word) (with_texts (cond b texts (texts ++ text ∷ [])) more) ≡ position_or_len (bytes_eq word) texts) [
       | true ↦ number_stays word texts more there
       | false ↦
-        let push = position_or_len_push (bytes_eq word) texts text in
-        let same : position_or_len (bytes_eq word) (texts ++ text ∷ []) ≡ position_or_len (bytes_eq word) texts =
-            push ∙ ap (λ b. cond b (length texts + cond (bytes_eq word text) 0 1) (position_or_len (bytes_eq word) texts)) (ne_eqb (position_or_len (bytes_eq word) texts) (length texts) (λ e. absurd (omega arith))) in
-        number_stays word (texts ++ text ∷ []) more (omega (arith, length-append texts (text ∷ []))) ∙ same
+          let push = position_or_len_push (bytes_eq word) texts text in
+          let same : position_or_len (bytes_eq word) (texts ++ text ∷ []) ≡ position_or_len (bytes_eq word) texts =
+          push ∙ ap (λ b. cond b (length texts + cond (bytes_eq word text) 0 1) (position_or_len (bytes_eq word) texts)) (ne_eqb (position_or_len (bytes_eq word) texts) (length texts) (λ e. absurd (omega arith))) in
+          number_stays word (texts ++ text ∷ []) more (omega (arith, length-append texts (text ∷ []))) ∙ same
     ]
 
 -- each of these stands below a place in the texts
@@ -172,15 +172,15 @@ few_of most texts (word ∷ words) small each =
     elim (is_some (place_of word texts)) as (λ b. is_some (place_of word texts) ≡ b → EachBelow most (with_texts (cond b texts (texts ++ word ∷ [])) words) (word ∷ words) → length (with_texts (cond b texts (texts ++ word ∷ [])) words) ≤ most) [
       | true ↦ λ is each. few_of most texts words small each.1
       | false ↦ λ is each.
-        let at_least = absent_at word texts is in
-        let within = place_within (bytes_eq word) texts in
-        let long : length (texts ++ word ∷ []) ≡ length texts + 1 = length-append texts (word ∷ []) in
-        let at_end : position_or_len (bytes_eq word) (texts ++ word ∷ []) ≡ length texts =
-            position_or_len_push (bytes_eq word) texts word
-            ∙ ap (λ b. cond b (length texts + cond (bytes_eq word word) 0 1) (position_or_len (bytes_eq word) texts)) (eq-eqb (position_or_len (bytes_eq word) texts) (length texts) (omega arith))
-            ∙ ap (λ b. length texts + cond b 0 1) (nat_list_eq_equiv.refl word)
-            ∙ (let e : length texts + 0 ≡ length texts = omega arith in e) in
-        let stays = number_stays word (texts ++ word ∷ []) words (omega arith) in
-        let below = each.0 in
-        few_of most (texts ++ word ∷ []) words (omega arith) each.1
+          let at_least = absent_at word texts is in
+          let within = place_within (bytes_eq word) texts in
+          let long : length (texts ++ word ∷ []) ≡ length texts + 1 = length-append texts (word ∷ []) in
+          let at_end : position_or_len (bytes_eq word) (texts ++ word ∷ []) ≡ length texts =
+          position_or_len_push (bytes_eq word) texts word
+          ∙ ap (λ b. cond b (length texts + cond (bytes_eq word word) 0 1) (position_or_len (bytes_eq word) texts)) (eq-eqb (position_or_len (bytes_eq word) texts) (length texts) (omega arith))
+          ∙ ap (λ b. length texts + cond b 0 1) (nat_list_eq_equiv.refl word)
+          ∙ (let e : length texts + 0 ≡ length texts = omega arith in e) in
+          let stays = number_stays word (texts ++ word ∷ []) words (omega arith) in
+          let below = each.0 in
+          few_of most (texts ++ word ∷ []) words (omega arith) each.1
     ] refl each

@@ -25,3 +25,4 @@ pub mod Taking
 pub mod Stating
 pub mod ScriptExamples
 pub mod LineReading
+pub mod Laws

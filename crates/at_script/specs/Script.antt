@@ -25,9 +25,9 @@ abbrev pub budget_of : ℤ → ℕ
 budget_of (pos n) = n
 budget_of (negsuc n) = 0
 
--- a block begins
+-- a block begins; no statement stands between blocks
 abbrev pub beginning : block_kind.BlockKind → State → State
-beginning kind s = record s { stage = stages.Within kind false; block = [] }
+beginning kind s = record s { stage = stages.Within kind false }
 
 -- a block ends, and the script has its statements
 abbrev pub ending : block_kind.BlockKind → State → State

@@ -20,6 +20,7 @@ use Rattle.at_script.specs.Words.{is_free, is_short, is_object, is_attribute_nam
 use Rattle.at_script.specs.Literals.{Written, nothing, integer, quoted, named, static, classm, prop}
 use Rattle.at_script.specs.Texts.{Texts}
 use Rattle.at_script.specs.Statements.{class_numbered, func_numbered}
+use Rattle.at_script.specs.Meanings.{class_number, func_number}
 use Rattle.at_script.specs.Views.{register_in}
 use Rattle.at_script.specs.Reading.{meaning_in, numbered_in, is_below, both_of}
 
@@ -67,7 +68,7 @@ subject_taken t w =
     then wrong causes.Name
     else if is_some (meaning_in t w).func
     then wrong causes.Name
-    else subject_numbered (unwrap_or (meaning_in t w).class widths.classes)
+    else subject_numbered (unwrap_or (meaning_in t w).class (class_number (length t.classes)))
 
 -- the bases, in order
 abbrev pub with_base : ℕ → Texts → Result (List ℕ) LineFault → List ℕ → Result (List ℕ) LineFault
@@ -102,7 +103,7 @@ begun_at begun number =
 
 abbrev pub function_begun : ℕ → Texts → List ℕ → Result (Unit {0}) LineFault
 function_begun begun t w =
-    if not (is_free w) then wrong causes.Name else begun_at begun (unwrap_or (meaning_in t w).func widths.functions)
+    if not (is_free w) then wrong causes.Name else begun_at begun (unwrap_or (meaning_in t w).func (func_number (length t.funcs)))
 
 -- Variables and names
 

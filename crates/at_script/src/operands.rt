@@ -13,7 +13,7 @@ ghost use Rattle.at_script.specs.Taking as taking;
 use crate::fault::{Cause, LineFault, both};
 use crate::lines::Words;
 use crate::literal::Literal;
-use crate::meaning::Meaning;
+use crate::meaning::{Meaning, class_number, func_number};
 use crate::stmt::{Operand, Target};
 use crate::tables::Tables;
 use crate::word::{
@@ -92,7 +92,8 @@ impl<'a> Tables<'a> {
         if meaning.func.is_some() {
             return wrong(Cause::Name);
         }
-        let number = meaning.class.unwrap_or(Class::COUNT);
+        let next = class_number(self.classes.len());
+        let number = meaning.class.unwrap_or(next);
         if number >= Class::COUNT {
             return wrong(Cause::Limit);
         }
@@ -131,7 +132,8 @@ impl<'a> Tables<'a> {
         if !is_free(name) {
             return wrong(Cause::Name);
         }
-        let number = self.meaning(name).func.unwrap_or(Func::COUNT);
+        let next = func_number(self.funcs.len());
+        let number = self.meaning(name).func.unwrap_or(next);
         if usize::from(number) < begun {
             return wrong(Cause::Name);
         }

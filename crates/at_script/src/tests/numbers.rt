@@ -32,10 +32,10 @@ fn budgets(rt: HostRuntime) -> Result<(), Fail> {
 fn operands(rt: HostRuntime) -> Result<(), Fail> {
     let text = "attrs 1\nfunc f\nend\nmain\nshare a b\nlet c prop:f,-,f\nbegin it c\nfinish\nend\n";
     let script = script_of(rt.alloc(), text)?;
-    let f = Func::new(0);
+    let property = Prop::new(Func::new(0), None, Func::new(0));
     let main = [
         Stmt::Share(Target::Var(0), Target::Var(1)),
-        Stmt::Let(2, Operand::Value(Value::Prop(Prop::new(f, None, f)))),
+        Stmt::Let(2, Operand::Value(Value::Prop(property))),
         Stmt::Begin(Target::It, Some(Target::Var(2))),
         Stmt::Finish,
     ];
