@@ -4,3 +4,4 @@ mod Unique
 mod InOrder
 mod RunChecks
 pub mod Legals
+pub mod Blocks

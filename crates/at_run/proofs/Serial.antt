@@ -1,5 +1,5 @@
 -- Serial lists of lines in parts: what was said first leads to a history, and the rest goes on from there.
-use Rattle.std.proofs.Common.{ℕ, Bool, true, false, List, [], ◌∷◌, ◌++◌, refl}
+use Rattle.std.proofs.Common.{ℕ, Bool, true, false, List, [], ◌∷◌, ◌++◌, refl, sym, subst}
 use Rattle.at_value.specs.declared.operation.Op as op
 use Rattle.at_line.specs.declared.line.LineOp.TheVariants as line_ops
 use Rattle.at_line.specs.declared.line.What as what
@@ -32,3 +32,9 @@ serial_split opened (w ∷ says) more history last s =
     adds_out (λ longer middle. IsSerial opened longer says middle) (λ middle. IsSerial opened middle more last) opened history w
     (adds_weaker opened (λ longer. IsSerial opened longer (says ++ more) last) (λ longer. (middle : List op.Op) × IsSerial opened longer says middle × IsSerial opened middle more last) history w
     (λ longer rest. serial_split opened says more longer last rest) s)
+
+pub serial_append : (opened : World) (says more : List what.What) (first middle last : List op.Op) → IsSerial opened first says middle → IsSerial opened middle more last → IsSerial opened first (says ++ more) last
+serial_append opened [] more first middle last s on = subst (λ (h : List op.Op). IsSerial opened h more last) (sym s) on
+serial_append opened (w ∷ says) more first middle last s on =
+    adds_weaker opened (λ longer. IsSerial opened longer says middle) (λ longer. IsSerial opened longer (says ++ more) last) first w
+    (λ longer k. serial_append opened says more longer middle last k on) s

@@ -29,7 +29,9 @@ use Rattle.at_thread.proofs.Leading.{leads_more}
 use Rattle.at_line.specs.Paths.{IsLocked}
 use Rattle.at_run.specs.Opening.{opening_of}
 use Rattle.at_run.specs.PlainRun.{IsUndisturbed, IsPlainRun}
-use Rattle.at_run.specs.Turns.{IsPlain, Tells, IsWorldOf, Leading}
+use Rattle.at_run.specs.Turns.{IsPlain, Tells}
+use Rattle.at_run.specs.Blocks.{IsWorldOf, Becomes, Leading, most_of}
+use Rattle.at_run.proofs.Serial.{serial_append}
 
 replay_more : (opened : World) (history : List Op) (o : Op) → replay opened (history ++ o ∷ []) ≡ (step (replay opened history) o).world
 replay_more opened [] o = refl
@@ -92,40 +94,44 @@ module _ (opened : World) where
   told_adds w v history (whats.Did place path line_ops.Finish r) told stands room = let k = unmoved w v history place.0 told stands in record { longer = history; world = k.0; adds = (k.1, refl); by_one = omega arith }
   told_adds w v history (whats.Local l) told stands room = record { longer = history; world = subst (λ (s : PlainState). IsWorldOf opened s history) (sym told) stands; adds = refl; by_one = omega arith }
 
-  -- one more line
-  serial_more : (history : List Op) (says : List What) (middle : List Op) (l : What) (last : List Op) → IsSerial opened history says middle → Adds opened (λ now. now ≡ last) middle l → IsSerial opened history (says ++ l ∷ []) last
-  serial_more history [] middle l last s a = subst (λ (h : List Op). Adds opened (λ now. now ≡ last) h l) (sym s) a
-  serial_more history (w ∷ says) middle l last s a =
-      adds_weaker opened (λ longer. IsSerial opened longer says middle) (λ longer. IsSerial opened longer (says ++ l ∷ []) last) history w (λ longer k. serial_more longer says middle l last k a) s
+-- a block that has begun
+pub leading_start : (p : ScriptParts) (s : execution.ThreadState) (w : PlainState) → Leading p s w [] s w
+leading_start p s w = record {
+  steps = 0;
+  leads = (refl, refl);
+  plain = All-nil IsPlain;
+  becomes = λ first stands room. record { history = first; serial = refl; short = omega arith; world = stands };
+}
 
 -- a turn without a line
-pub leading_silent : (p : ScriptParts) (s : execution.ThreadState) (says : List What) (t u : execution.ThreadState) (w v : PlainState) → Leading p s says t w → Makes (next_of p t) [] u → v ≡ w → Leading p s says u v
-leading_silent p s says t u w v h makes same = record {
+pub leading_silent : (p : ScriptParts) (s : execution.ThreadState) (w : PlainState) (says : List What) (t u : execution.ThreadState) (v x : PlainState) → Leading p s w says t v → Makes (next_of p t) [] u → x ≡ v → Leading p s w says u x
+leading_silent p s w says t u v x h makes same = record {
   steps = suc h.steps;
   leads = subst (λ (ws : List What). Leads p (suc h.steps) s ws u) (append-nil says) (leads_more p h.steps s says t [] u h.leads makes);
-  history = h.history;
-  serial = h.serial;
-  short = h.short;
   plain = h.plain;
-  world = subst (λ (x : PlainState). IsWorldOf (opening_of p) x h.history) (sym same) h.world;
+  becomes = subst (λ (y : PlainState). Becomes (opening_of p) w says y) (sym same) h.becomes;
 }
 
 -- a turn with a line
-pub leading_says : (p : ScriptParts) (s : execution.ThreadState) (says : List What) (t u : execution.ThreadState) (w v : PlainState) (l : What) → Leading p s says t w → Makes (next_of p t) (l ∷ []) u → Tells w l v → IsPlain l → length says + 1 < 2 ^ 64
-    → Leading p s (says ++ l ∷ []) u v
-leading_says p s says t u w v l h makes tells plain room =
-    let short = h.short in
-    let a = told_adds (opening_of p) w v h.history l tells h.world (omega arith) in
-    let by_one = a.by_one in
+pub leading_says : (p : ScriptParts) (s : execution.ThreadState) (w : PlainState) (says : List What) (t u : execution.ThreadState) (v x : PlainState) (l : What) → Leading p s w says t v → Makes (next_of p t) (l ∷ []) u → Tells v l x → IsPlain l
+    → Leading p s w (says ++ l ∷ []) u x
+leading_says p s w says t u v x l h makes tells plain =
     let longer : length (says ++ l ∷ []) ≡ length says + 1 = length-append says (l ∷ []) in
     record {
       steps = suc h.steps;
       leads = leads_more p h.steps s says t (l ∷ []) u h.leads makes;
-      history = a.longer;
-      serial = serial_more (opening_of p) [] says h.history l a.longer h.serial a.adds;
-      short = omega arith;
       plain = All-push IsPlain says l h.plain plain;
-      world = a.world;
+      becomes = λ first stands room.
+          let on = h.becomes first stands (omega arith) in
+          let short = on.short in
+          let a = told_adds (opening_of p) v x on.history l tells on.world (omega arith) in
+          let by_one = a.by_one in
+          record {
+            history = a.longer;
+            serial = serial_append (opening_of p) says (l ∷ []) first on.history a.longer on.serial a.adds;
+            short = omega arith;
+            world = a.world;
+          };
     }
 
 -- what a thread says by itself is plain
@@ -138,20 +144,8 @@ own_plain locals.NotCallable h = (tt, tt)
 own_plain (locals.Worn sequence) h = absurd h
 own_plain (locals.Full place) h = absurd h
 
--- where no line was written yet, and the world is the opening one
-pub leading_start : (p : ScriptParts) (s : execution.ThreadState) (w : PlainState) → w ≡ record { world = opening_of p; place = 0 } → Leading p s [] s w
-leading_start p s w is = record {
-  steps = 0;
-  leads = (refl, refl);
-  history = [];
-  serial = refl;
-  short = omega arith;
-  plain = All-nil IsPlain;
-  world = (ap (λ (x : PlainState). x.world) is, ap (λ (x : PlainState). x.place) is);
-}
-
 -- there are at most two lines a statement that the script allows, and one more
-pub few_lines : (p : ScriptParts) (count : ℕ) (s : execution.ThreadState) → Few p count s → count ≤ 2 * p.budget + 1
+pub few_lines : (p : ScriptParts) (count : ℕ) (s : execution.ThreadState) → Few p count s → count ≤ most_of p
 few_lines p count s h =
     let most = spare_most s.frames in
     let few = h.few in
@@ -167,19 +161,3 @@ pub all_numbered : (P : What → Type 0) (thread from : ℕ) (says : List What) 
 all_numbered P thread from [] all = All-nil (λ (line : Line). P line.what)
 all_numbered P thread from (w ∷ says) all =
     All-cons (λ (line : Line). P line.what) (record { what = w; number = from; thread = thread }) (numbered_lines thread (suc from) says) (All-head P w says all) (all_numbered P thread (suc from) says (All-tail P w says all))
-
--- Lines that run the block `main` to its end, on the data model from the opening world on, are the plain run of a script
--- without other blocks.
-pub plain_run : (p : ScriptParts) (says : List What) (end : execution.ThreadState) (w : PlainState) (last : final.Final) → p.threads ≡ [] → p.finally ≡ None → next_of p end ≡ execution.ended → Leading p (start p.main (unbound p)) says end w → last ≡ final_of w.world → IsPlainRun p (numbered_lines 0 1 says) last
-plain_run p says end w last threads finally ends h is =
-    let plain = all_numbered IsPlain 0 1 says h.plain in
-    record {
-      serial_run = record {
-        runs = alone_run p says end threads finally (ends, h.steps, h.leads);
-        history = h.history;
-        serial = subst (λ (ws : List What). IsSerial (opening_of p) [] ws h.history) (sym (whats_of_numbered 0 1 says)) h.serial;
-        undisturbed = All-weaker (λ (line : Line). IsPlain line.what) (λ (line : Line). IsUndisturbed line.what) (λ line is. is.0) (numbered_lines 0 1 says) plain;
-        ends = is ∙ ap final_of h.world.0;
-      };
-      locked = All-weaker (λ (line : Line). IsPlain line.what) (λ (line : Line). IsLocked line.what) (λ line is. is.1) (numbered_lines 0 1 says) plain;
-    }

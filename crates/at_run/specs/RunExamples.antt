@@ -16,7 +16,7 @@ use Rattle.at_script.specs.declared.stmt.Stmt.TheVariants as stmts
 use Rattle.at_script.specs.declared.stmt.Operand.TheVariants as operands
 use Rattle.at_script.specs.declared.stmt.Target.TheVariants as targets
 use Rattle.at_script.specs.Parts.{ScriptParts}
-use Rattle.at_script.specs.Tables as tables
+use Rattle.at_script.specs.Texts.{texts_of}
 
 -- `begin a`, `set a.x 7`, `finish`, `get a.y`, `let b a`
 abbrev pub first_block : List Stmt
@@ -37,8 +37,8 @@ last_block = stmts.Get (targets.Var 0) 5 ∷ []
 abbrev pub example_script : ScriptParts
 example_script = record {
   budget = 100;
-  names = tables.initial_tables.names ++ codes "x" ∷ codes "y" ∷ [];
-  classes = tables.initial_tables.classes ++ codes "C" ∷ [];
+  names = (texts_of []).names ++ codes "x" ∷ codes "y" ∷ [];
+  classes = (texts_of []).classes ++ codes "C" ∷ [];
   vars = codes "a" ∷ codes "b" ∷ [];
   funcs = [];
   bodies = [];

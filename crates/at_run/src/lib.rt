@@ -7,4 +7,4 @@ mod plain_run;
 #[cfg(test)]
 mod tests;
 
-pub use plain_run::run_main;
+pub use plain_run::run_plain;

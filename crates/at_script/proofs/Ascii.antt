@@ -6,7 +6,7 @@ use Rattle.std.proofs.lemmas.Str.{IsUtf8-from_ascii}
 use Rattle.std.proofs.lemmas.Str.Ascii.{IsAscii-nil, IsAscii-cons}
 use Rattle.std.proofs.lemmas.Bool.Decides.{nat_tests}
 use Rattle.std.proofs.lemmas.Slice.Eq.{bytes_eq-Decides}
-use Rattle.at_script.specs.Words.{begins_identifier, continues_identifier, has_identifier_form, is_identifier, is_attribute_name, is_class_word, is_reserved}
+use Rattle.at_script.specs.Words.{begins_identifier, continues_identifier, is_identifier}
 
 begins_ascii : (b : ℕ) → begins_identifier b ≡ true → b < 128
 begins_ascii b h = grind (arith, nat_tests)
@@ -24,24 +24,8 @@ all_ascii (b ∷ bytes) h =
     let k = and-true (continues_identifier b) (list_all continues_identifier bytes) h in
     IsAscii-cons b bytes (continues_ascii b k.0) (all_ascii bytes k.1)
 
-pub IsUtf8-from_form : (word : List ℕ) → has_identifier_form word ≡ true → IsUtf8 word
-IsUtf8-from_form [] h = cc
-IsUtf8-from_form (b ∷ bytes) h =
+pub IsUtf8-from_identifier : (word : List ℕ) → is_identifier word ≡ true → IsUtf8 word
+IsUtf8-from_identifier [] h = cc
+IsUtf8-from_identifier (b ∷ bytes) h =
     let k = and-true (begins_identifier b) (list_all continues_identifier bytes) h in
     IsUtf8-from_ascii (b ∷ bytes) (IsAscii-cons b bytes (begins_ascii b k.0) (all_ascii bytes k.1))
-
-pub form-from_identifier : (word : List ℕ) → is_identifier word ≡ true → has_identifier_form word ≡ true
-form-from_identifier word h = (and-true _ (has_identifier_form word) (and-true _ (not (is_reserved word)) h).0).1
-
-pub form-from_attribute_name : (word : List ℕ) → is_attribute_name word ≡ true → has_identifier_form word ≡ true
-form-from_attribute_name word h = form-from_identifier word (and-true (is_identifier word) _ (and-true _ _ h).0).0
-
-or-true : (a b : Bool) (P : Type 0) → (a || b) ≡ true → (a ≡ true → P) → (b ≡ true → P) → P
-or-true true b P h l r = l refl
-or-true false b P h l r = r h
-
-pub form-from_class_word : (word : List ℕ) → is_class_word word ≡ true → has_identifier_form word ≡ true
-form-from_class_word word h =
-    or-true (is_identifier word) (bytes_eq word (codes "object")) (has_identifier_form word ≡ true) h
-    (form-from_identifier word)
-    (λ e. ap has_identifier_form ((bytes_eq-Decides word (codes "object")).0 e))

@@ -3,9 +3,6 @@ use Rattle.std.proofs.Common.{◌≡◌, ◌∙◌, ap, refl, ℕ, ◌+◌, ◌�
 use Rattle.std.specs.List.{slice_split, onto_first, position, position_or_len, prefix_len}
 use Rattle.std.proofs.lemmas.List.Splits.{slice_split_first}
 use Rattle.std.proofs.lemmas.Option.{cond_some}
-use Rattle.at_script.specs.declared.pieces.Part.{Part}
-use Rattle.at_script.specs.declared.pieces.Part.TheVariants.{Line, Word, Dot, Colon, Comma, Quote}
-use Rattle.at_script.specs.Views.{counts, counted}
 use Rattle.std.proofs.lemmas.Bool.{ltb-true, ltb-false}
 
 -- the first part ends where the test first passes
@@ -25,7 +22,7 @@ whole_from p (x ∷ xs) h =
       | false ↦ λ h. ap (onto_first x) (whole_from p xs (omega arith))
     ] h
 
-none_at : (n m : ℕ) → cond (ltb n m) (Some n) None ≡ None → m ≤ n
+pub none_at : (n m : ℕ) → cond (ltb n m) (Some n) None ≡ None → m ≤ n
 none_at n m = elim (ltb n m) as (λ b. (ltb n m ≡ b) → cond b (Some n) None ≡ None → m ≤ n) [
   | true ↦ λ e h. cc
   | false ↦ λ e h. ltb-false n m e
@@ -33,12 +30,3 @@ none_at n m = elim (ltb n m) as (λ b. (ltb n m ≡ b) → cond b (Some n) None 
 
 pub cut_nowhere : (p : ℕ → Bool) (xs : List ℕ) → position p xs ≡ None → slice_split p xs ≡ xs ∷ []
 cut_nowhere p xs h = whole_from p xs (none_at (position_or_len p xs) (length xs) h)
-
--- a part that counts stands before the others, and one that doesn't is left out
-pub counted_step : (part : Part) (first : List ℕ) (rest : List (List ℕ)) → counted part (first ∷ rest) ≡ cond (counts part first) (first ∷ counted part rest) (counted part rest)
-counted_step Line first rest = refl
-counted_step Word first rest = refl
-counted_step Dot first rest = refl
-counted_step Colon first rest = refl
-counted_step Comma first rest = refl
-counted_step Quote first rest = refl

@@ -22,8 +22,17 @@ hash = 35
 abbrev pub comma : ℕ
 comma = 44
 
+abbrev pub minus : ℕ
+minus = 45
+
 abbrev pub dot : ℕ
 dot = 46
+
+abbrev pub zero : ℕ
+zero = 48
+
+abbrev pub nine : ℕ
+nine = 57
 
 abbrev pub colon : ℕ
 colon = 58

@@ -1,16 +1,15 @@
 -- Values as a script writes them.
 use Rattle.std.specs.Prelude.{ℕ, ◌==◌, ◌&&◌, List, length, Option, Some, None, if◌then◌else◌, codes, bytes_eq, option_and_then, ℤ}
 use Rattle.std.specs.Option.{option_map}
-use Rattle.std.specs.List.{slice_split}
 use Rattle.at_script.specs.Bytes as bytes
-use Rattle.at_script.specs.Pieces.{two_parts, three_parts}
-use Rattle.at_script.specs.Words.{identifier_of, class_word_of, integer_of}
+use Rattle.at_script.specs.Pieces.{halves}
+use Rattle.at_script.specs.Words.{identifier_of, number_of}
 
 infixl 10 ◌>>=◌
 abbrev pub ◌>>=◌ : {A B : Type 0} → Option A → (A → Option B) → Option B
 o >>= f = option_and_then f o
 
--- A value in texts. A word is a class, a function or a variable.
+-- A value in texts. A named one is a class, a function, a variable, `self`, `arg`, `other` or `it`.
 pub data Written : Type 0 where
   nothing : Written
   integer : ℤ → Written
@@ -26,11 +25,11 @@ or None second = second
 or (Some x) second = Some x
 
 -- an identifier between two double quotes
-abbrev pub within_quotes : List ℕ × List ℕ × List ℕ → Option (List ℕ)
-within_quotes parts = if length parts.0 == 0 && length parts.2 == 0 then identifier_of parts.1 else None
-
 abbrev pub quoted_of : List ℕ → Option (List ℕ)
-quoted_of word = three_parts (slice_split (λ b. b == bytes.double_quote) word) >>= within_quotes
+quoted_of word = do
+  first ← halves bytes.double_quote word
+  second ← halves bytes.double_quote first.1
+  if length first.0 == 0 && length second.1 == 0 then identifier_of second.0 else None
 
 -- a function of a property, or `-` where it has none
 abbrev pub function_of : List ℕ → Option (Option (List ℕ))
@@ -39,10 +38,11 @@ function_of word = if bytes_eq word (codes "-") then Some None else option_map S
 -- `P,P,P`: what reads, what writes and what deletes
 abbrev pub property_of : List ℕ → Option Written
 property_of word = do
-  parts ← three_parts (slice_split (λ b. b == bytes.comma) word)
-  get ← function_of parts.0
-  set ← function_of parts.1
-  del ← function_of parts.2
+  first ← halves bytes.comma word
+  second ← halves bytes.comma first.1
+  get ← function_of first.0
+  set ← function_of second.0
+  del ← function_of second.1
   Some (prop get set del)
 
 -- `static:F`, `classm:F` or `prop:P,P,P`
@@ -55,11 +55,11 @@ wrapped sides =
     else if bytes_eq sides.0 (codes "prop") then property_of sides.1 else None
 
 abbrev pub wrapped_of : List ℕ → Option Written
-wrapped_of word = two_parts (slice_split (λ b. b == bytes.colon) word) >>= wrapped
+wrapped_of word = halves bytes.colon word >>= wrapped
 
--- `none`, a number, a text, the name of a class, a function or a variable, or a function that is wrapped
+-- The value of this form: `none`, a name, a number, a text, or a function that is wrapped.
 abbrev pub value_of : List ℕ → Option Written
 value_of word =
     if bytes_eq word (codes "none")
     then Some nothing
-    else or (option_map named (class_word_of word)) (or (option_map integer (integer_of word)) (or (option_map quoted (quoted_of word)) (wrapped_of word)))
+    else or (option_map named (identifier_of word)) (or (option_map integer (number_of word)) (or (option_map quoted (quoted_of word)) (wrapped_of word)))

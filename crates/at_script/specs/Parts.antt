@@ -1,6 +1,5 @@
 -- What a script is.
-use Rattle.std.specs.Prelude.{ℕ, List, [], Option, Some, None, map, slice_get}
-use Rattle.at_script.specs.declared.tables.Tables.{Tables}
+use Rattle.std.specs.Prelude.{ℕ, List, Option, Some, None, slice_get}
 use Rattle.at_script.specs.declared.stmt.Stmt.{Stmt}
 use Rattle.at_script.specs.declared.stmt.Block.{Block}
 use Rattle.at_script.specs.declared.stmt.Block.TheVariants.{Main, Thread, Finally, Func}
@@ -16,20 +15,6 @@ pub record ScriptParts : Type 0 where
   pub main : List Stmt
   pub threads : List (List Stmt)
   pub finally : Option (List Stmt)
-
--- a script of the block `main` and functions without statements
-abbrev pub script_with : ℕ → List Stmt → Tables → ScriptParts
-script_with budget main t = record {
-  budget = budget;
-  names = t.names;
-  classes = t.classes;
-  vars = t.vars;
-  funcs = t.funcs;
-  bodies = map (λ _. []) t.funcs;
-  main = main;
-  threads = [];
-  finally = None;
-}
 
 -- the statements of a block, where the script has it
 abbrev pub block_of : ScriptParts → Block → Option (List Stmt)

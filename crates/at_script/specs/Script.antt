@@ -1,154 +1,144 @@
--- Which bytes are the text of a script, and of which one.
---
--- A script is a list of lines. For now it has a header, functions without statements, and the block `main`:
---
---     attrs 1
---     func F
---     end
---     ..
---     main
---     STATEMENT ..
---     end
-use Rattle.std.specs.Prelude.{ℕ, ◌==◌, ◌-◌, nat_eq, nat_le, Bool, true, false, is_some, ◌&&◌, ◌||◌, List, [], ◌∷◌, length, take, Option, Some, None, if◌then◌else◌, codes, bytes_eq}
-use Rattle.std.specs.Option.{option_map}
-use Rattle.std.specs.List.{slice_split, ends_with, filter, filter_map, list_all}
-use Rattle.at_value.specs.Widths as widths
-use Rattle.at_script.specs.declared.tables.Tables.{Tables}
-use Rattle.at_script.specs.declared.stmt.Stmt.{Stmt}
-use Rattle.at_script.specs.Parts.{ScriptParts, script_with}
-use Rattle.at_script.specs.Bytes as bytes
-use Rattle.at_script.specs.Limits as limits
-use Rattle.at_script.specs.Pieces.{is_blank, is_said, is_word, one_part, two_parts}
-use Rattle.at_name.specs.Texts.{place_of, interned, all_interned}
-use Rattle.at_script.specs.Literals.{◌>>=◌}
-use Rattle.at_script.specs.Shapes.{Said, words_say, declared_by}
-use Rattle.at_script.specs.Tables.{initial_tables, func_at, statement_in}
-use Rattle.at_script.specs.Words.{identifier_of}
+-- Which bytes are the text of a script, of which one, and what is first wrong with other bytes.
+use Rattle.std.specs.Prelude.{ℕ, zero, suc, ◌≡◌, ◌+◌, Bool, true, false, List, [], ◌∷◌, ◌++◌, length, take, Option, Some, None, ℤ, pos, negsuc}
+use Rattle.std.specs.Option.{option_map, option_to_list}
+use Rattle.std.specs.List.{fold}
+use Rattle.at_script.specs.declared.stage.BlockKind as block_kind
+use Rattle.at_script.specs.declared.stage.BlockKind.TheVariants as block_kinds
+use Rattle.at_script.specs.declared.stage.Stage as stage
+use Rattle.at_script.specs.declared.stage.Stage.TheVariants as stages
+use Rattle.at_script.specs.declared.fault.Cause as cause
+use Rattle.at_script.specs.Lines.{lines_of}
+use Rattle.at_script.specs.Literals.{or}
+use Rattle.at_script.specs.Shapes as shapes
+use Rattle.at_script.specs.Shapes.{Said}
+use Rattle.at_script.specs.Stages.{stage_behind, end_cause}
+use Rattle.at_script.specs.Uses.{uses_of, with_uses}
+use Rattle.at_script.specs.State.{State, before_all, parts_of}
+use Rattle.at_script.specs.Causes.{is_first, read_words, said_in, cause_of}
+use Rattle.at_script.specs.Statements.{statement_of}
+use Rattle.at_script.specs.Parts.{ScriptParts}
 
--- a newline, a tab, a carriage return, or a byte of ASCII that prints
-abbrev pub is_allowed : ℕ → Bool
-is_allowed byte =
-    byte == bytes.newline || byte == bytes.tab || byte == bytes.carriage_return || (nat_le bytes.space byte && nat_le byte bytes.tilde)
+-- What a line adds
 
--- no more bytes than a script may have, and only such as are allowed
-abbrev pub is_readable : List ℕ → Bool
-is_readable text = nat_le (length text) limits.most_bytes && list_all is_allowed text
+-- the number of statements, where it isn't negative
+abbrev pub budget_of : ℤ → ℕ
+budget_of (pos n) = n
+budget_of (negsuc n) = 0
 
--- the bytes without a newline at their end, which begins no line
-abbrev pub without_last_newline : List ℕ → List ℕ
-without_last_newline text = if ends_with nat_eq text (bytes.newline ∷ []) then take (length text - 1) text else text
+-- a block begins; no statement stands between blocks
+abbrev pub beginning : block_kind.BlockKind → State → State
+beginning kind s = record s { stage = stages.Within kind false }
 
--- the parts between newlines
-abbrev pub lines_of : List ℕ → List (List ℕ)
-lines_of text = slice_split (λ b. b == bytes.newline) (without_last_newline text)
+-- a block ends, and the script has its statements
+abbrev pub ending : block_kind.BlockKind → State → State
+ending block_kinds.Func s = record s { stage = stages.Functions; block = []; bodies = s.bodies ++ s.block ∷ [] }
+ending block_kinds.Main s = record s { stage = stages.Ending; block = []; main = s.block }
+ending block_kinds.Thread s = record s { stage = stages.Ending; block = []; threads = s.threads ++ s.block ∷ [] }
+ending block_kinds.Finally s = record s { stage = stages.Closed; block = []; finally = Some s.block }
 
--- the words between blanks
-abbrev pub words_in : List ℕ → List (List ℕ)
-words_in line = filter is_word (slice_split is_blank line)
+-- the block in which a line stands ends with it
+abbrev pub ended : stage.Stage → State → State
+ended (stages.Within kind section) s = ending kind s
+ended stages.Header s = s
+ended stages.Opening s = s
+ended stages.Functions s = s
+ended stages.Ending s = s
+ended stages.Closed s = s
 
--- whether it is this word, and there is one
-abbrev pub is_this : List ℕ → Option (List ℕ) → Bool
-is_this word None = false
-is_this word (Some other) = bytes_eq other word
+-- in a block, with a section open or not from then on
+abbrev pub in_section : Bool → stage.Stage → stage.Stage
+in_section section (stages.Within kind before) = stages.Within kind section
+in_section section stages.Header = stages.Header
+in_section section stages.Opening = stages.Opening
+in_section section stages.Functions = stages.Functions
+in_section section stages.Ending = stages.Ending
+in_section section stages.Closed = stages.Closed
 
--- whether the line has this word and no other
-abbrev pub has_only : List ℕ → List ℕ → Bool
-has_only word line = is_this word (one_part (words_in line))
+-- where the line after this one stands; what the script has where the line begins or ends a block or says a budget
+abbrev pub led_by : Said → State → State
+led_by (shapes.budget z) s = record s { stage = stages.Functions; budget = budget_of z }
+led_by (shapes.func f) s = beginning block_kinds.Func s
+led_by shapes.main s = beginning block_kinds.Main s
+led_by shapes.thread s = beginning block_kinds.Thread s
+led_by shapes.finally s = beginning block_kinds.Finally s
+led_by shapes.end s = ended s.stage s
+led_by (shapes.begin r q) s = record s { stage = in_section true s.stage }
+led_by shapes.finish s = record s { stage = in_section false s.stage }
+led_by (shapes.class c above) s = s
+led_by (shapes.bases c above) s = s
+led_by (shapes.put c x v) s = s
+led_by (shapes.cut c x) s = s
+led_by (shapes.new a c v) s = s
+led_by (shapes.set r x v) s = s
+led_by (shapes.del r x) s = s
+led_by (shapes.get r x) s = s
+led_by (shapes.turn r c) s = s
+led_by (shapes.share r q) s = s
+led_by (shapes.super_read c r x) s = s
+led_by (shapes.special r x) s = s
+led_by (shapes.classof r) s = s
+led_by (shapes.mro c) s = s
+led_by (shapes.call r x v) s = s
+led_by (shapes.super_call c r x v) s = s
+led_by (shapes.bind a v) s = s
+led_by (shapes.result v) s = s
+led_by shapes.checkpoint s = s
 
--- whether they are these two words, and there are two
-abbrev pub are_these : List ℕ → List ℕ → Option (List ℕ × List ℕ) → Bool
-are_these first second None = false
-are_these first second (Some words) = bytes_eq words.0 first && bytes_eq words.1 second
+-- the block with the statement of a line, and the texts with the line's own
+abbrev pub with_said : Said → State → State
+with_said said s =
+    let t = with_uses s.texts (uses_of said) in
+    record s { texts = t; block = s.block ++ option_to_list (statement_of t said) }
 
--- the line `attrs 1`
-abbrev pub is_header : List ℕ → Bool
-is_header line = are_these (codes "attrs") (codes "1") (two_parts (words_in line))
+-- what the text says with a line that says this
+abbrev pub after_said : Option Said → State → State
+after_said None s = s
+after_said (Some said) s = led_by said (with_said said s)
 
--- the lines after the header; such as say nothing are skipped, but for the first
-abbrev pub headed : List (List ℕ) → Option (List (List ℕ))
-headed [] = None
-headed (header ∷ lines) = if is_header header then Some (filter is_said lines) else None
+-- after the header stands the rest
+abbrev pub past_header : stage.Stage → stage.Stage
+past_header stages.Header = stages.Opening
+past_header stages.Opening = stages.Opening
+past_header stages.Functions = stages.Functions
+past_header (stages.Within kind section) = stages.Within kind section
+past_header stages.Ending = stages.Ending
+past_header stages.Closed = stages.Closed
 
--- the identifier after the word `func`
-abbrev pub func_named : Option (List ℕ × List ℕ) → Option (List ℕ)
-func_named None = None
-func_named (Some words) = if bytes_eq words.0 (codes "func") then identifier_of words.1 else None
+-- what the text says with a line that has no offence
+abbrev pub after : State → List ℕ → State
+after s line =
+    let said = said_in (read_words s line) in
+    after_said said (record s { stage = past_header s.stage; bytes = s.bytes + length line })
 
--- the function of a line `func F`
-abbrev pub func_of : List ℕ → Option (List ℕ)
-func_of line = func_named (two_parts (words_in line))
+-- The whole text
 
--- The lines after the line `main`. Before it stand functions, each a line `func F` and a line `end`; where such a line
--- `func F` comes before these lines, `end` is still to come.
-abbrev pub after_funcs : Bool → List (List ℕ) → Option (List (List ℕ))
-after_funcs opened [] = None
-after_funcs true (line ∷ lines) = if has_only (codes "end") line then after_funcs false lines else None
-after_funcs false (line ∷ lines) =
-    if has_only (codes "main") line then Some lines else if is_some (func_of line) then after_funcs true lines else None
+-- The first of these lines with an offence, the lines numbered from this number on, and its cause; or else, after the last,
+-- what is missing there.
+abbrev pub first_from : ℕ → State → List (List ℕ) → Option (ℕ × cause.Cause)
+first_from number s [] = option_map (λ c. (number, c)) (end_cause s.stage)
+first_from number s (line ∷ lines) =
+    or (option_map (λ c. (number, c)) (cause_of s line)) (first_from (suc number) (after s line) lines)
 
--- the functions that lines declare
-abbrev pub funcs_in : List (List ℕ) → List (List ℕ)
-funcs_in lines = filter_map func_of lines
+-- what is first wrong with a text: the line, from 1, and the cause
+abbrev pub first_offence : List ℕ → Option (ℕ × cause.Cause)
+first_offence text = first_from 1 (before_all (lines_of text)) (lines_of text)
 
--- the lines before the last, which is `end`
-abbrev pub before_end : List (List ℕ) → Option (List (List ℕ))
-before_end [] = None
-before_end (line ∷ []) = if has_only (codes "end") line then Some [] else None
-before_end (line ∷ next ∷ lines) = option_map (λ more. line ∷ more) (before_end (next ∷ lines))
+-- what the text says before the line with this many lines before it, where none of those has an offence
+abbrev pub state_before : List ℕ → ℕ → State
+state_before text n = fold after (before_all (lines_of text)) (take n (lines_of text))
 
--- what the lines say, where each says something
-abbrev pub all_say : List (List ℕ) → Option (List Said)
-all_say [] = Some []
-all_say (line ∷ lines) = do
-  first ← words_say (words_in line)
-  rest ← all_say lines
-  Some (first ∷ rest)
+-- the script that a text without offence writes
+abbrev pub script_in : List ℕ → ScriptParts
+script_in text = parts_of (fold after (before_all (lines_of text)) (lines_of text))
 
--- the classes that lines declare
-abbrev pub declared_in : List (List ℕ) → List (List ℕ)
-declared_in lines = filter_map (λ line. declared_by (words_in line)) lines
+abbrev pub if_no_offence : {A B : Type 0} → Option A → B → Option B
+if_no_offence None b = Some b
+if_no_offence (Some offence) b = None
 
--- The texts with `object` and then the classes that the lines declare, each at its first declaration, where they aren't
--- more than there may be.
-abbrev pub with_classes : List (List ℕ) → Option Tables
-with_classes lines = option_map (λ classes. record initial_tables { classes = classes }) (all_interned widths.classes initial_tables.classes (declared_in lines))
-
--- the texts with one more function, where there is room for it and no class and no other function is called as it is
-abbrev pub with_func : Tables → List ℕ → Option Tables
-with_func t text =
-    if is_some (place_of text t.classes) || is_some (func_at t text)
-    then None
-    else option_map (λ found. record t { funcs = found.1 }) (interned widths.functions text t.funcs)
-
-abbrev pub with_funcs : Tables → List (List ℕ) → Option Tables
-with_funcs t [] = Some t
-with_funcs t (text ∷ more) = with_func t text >>= (λ next. with_funcs next more)
-
--- the statements of lines in turn, and the texts with theirs
-abbrev pub statements_in : Tables → List Said → Option (List Stmt × Tables)
-statements_in t [] = Some ([], t)
-statements_in t (said ∷ more) = do
-  first ← statement_in t said
-  rest ← statements_in first.1 more
-  Some (first.0 ∷ rest.0, rest.1)
-
--- the statements of a block that ends with the last line, and the texts with theirs
-abbrev pub block_read : Tables → List (List ℕ) → Option (List Stmt × Tables)
-block_read t lines = (before_end lines >>= all_say) >>= statements_in t
-
--- a script of the block `main`, with the budget that a script has where it says none
-abbrev pub script_read : List Stmt × Tables → Option ScriptParts
-script_read read = Some (script_with limits.usual_budget read.0 read.1)
-
--- the script of the lines after the header
-abbrev pub script_of_lines : List (List ℕ) → Option ScriptParts
-script_of_lines lines = do
-  main ← after_funcs false lines
-  classes ← with_classes lines
-  tables ← with_funcs classes (funcs_in lines)
-  read ← block_read tables main
-  script_read read
-
--- the script that the bytes write
+-- the script that the bytes write, where they are a script
 abbrev pub script_of : List ℕ → Option ScriptParts
-script_of text = if is_readable text then headed (lines_of text) >>= script_of_lines else None
+script_of text = if_no_offence (first_offence text) (script_in text)
+
+-- the bytes are the text of this script
+abbrev pub IsScript : List ℕ → ScriptParts → Type 0
+IsScript text script = script_of text ≡ Some script

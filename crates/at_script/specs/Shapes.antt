@@ -1,153 +1,189 @@
--- What a line says, before its words are looked up.
-use Rattle.std.specs.Prelude.{ℕ, ◌==◌, List, [], ◌∷◌, Option, Some, None, if◌then◌else◌, codes, bytes_eq}
+-- What a line says: its words, told apart by their form alone.
+use Rattle.std.specs.Prelude.{ℕ, nat_le, Bool, ◌&&◌, List, [], ◌∷◌, length, Option, Some, None, if◌then◌else◌, ℤ}
 use Rattle.std.specs.Option.{option_map}
-use Rattle.std.specs.List.{slice_split}
+use Rattle.std.specs.List.{list_all}
+use Rattle.at_value.specs.Widths as widths
+use Rattle.at_script.specs.declared.keyword.Keyword as keyword
+use Rattle.at_script.specs.declared.keyword.Keyword.TheVariants as keywords
 use Rattle.at_script.specs.Bytes as bytes
-use Rattle.at_script.specs.Pieces.{one_part, two_parts}
-use Rattle.at_script.specs.Words.{identifier_of, attribute_name_of, class_word_of}
+use Rattle.at_script.specs.Pieces.{halves, one_part, two_parts}
+use Rattle.at_script.specs.Words.{is_identifier, identifier_of, number_of}
 use Rattle.at_script.specs.Literals.{◌>>=◌, Written, value_of}
 
--- A line in texts. The owner of an attribute that is read or written is a variable or a class.
+-- A line in texts: first those that begin a block or end it, then the statements.
 pub data Said : Type 0 where
+  budget : ℤ → Said
+  func : List ℕ → Said
+  main : Said
+  thread : Said
+  finally : Said
+  end : Said
   class : List ℕ → List (List ℕ) → Said
+  bases : List ℕ → List (List ℕ) → Said
   put : List ℕ → List ℕ → Written → Said
   cut : List ℕ → List ℕ → Said
   new : List ℕ → List ℕ → Option Written → Said
-  mro : List ℕ → Said
   set : List ℕ → List ℕ → Written → Said
   del : List ℕ → List ℕ → Said
   get : List ℕ → List ℕ → Said
+  turn : List ℕ → List ℕ → Said
+  share : List ℕ → List ℕ → Said
   super_read : List ℕ → List ℕ → List ℕ → Said
   special : List ℕ → List ℕ → Said
   classof : List ℕ → Said
+  mro : List ℕ → Said
+  call : List ℕ → List ℕ → Option Written → Said
+  super_call : List ℕ → List ℕ → List ℕ → Option Written → Said
+  bind : List ℕ → Written → Said
+  result : Written → Said
+  begin : List ℕ → Option (List ℕ) → Said
+  finish : Said
+  checkpoint : Said
 
--- what stands on the two sides of the one dot, of which the second names an attribute
+-- Words of a form
+
+-- `C.x` or `R.x`: the two sides of the dot
 abbrev pub attribute_of : List ℕ → Option (List ℕ × List ℕ)
 attribute_of word = do
-  sides ← two_parts (slice_split (λ b. b == bytes.dot) word)
-  name ← attribute_name_of sides.1
-  Some (sides.0, name)
+  sides ← halves bytes.dot word
+  owner ← identifier_of sides.0
+  name ← identifier_of sides.1
+  Some (owner, name)
 
--- `R.x`: a variable or a class, and the name of an attribute
-abbrev pub owned_of : List ℕ → Option (List ℕ × List ℕ)
-owned_of word = do
-  place ← attribute_of word
-  owner ← class_word_of place.0
-  Some (owner, place.1)
+-- up to as many identifiers as a class may have bases
+abbrev pub are_bases : List (List ℕ) → Bool
+are_bases words = nat_le (length words) widths.most_bases && list_all is_identifier words
 
--- `class C B..`
-abbrev pub class_says : List (List ℕ) → Option Said
-class_says [] = None
-class_says (c ∷ bases) = option_map (λ name. class name bases) (identifier_of c)
+-- What follows the first word
 
--- `put C.x V`
-abbrev pub put_says : List (List ℕ) → Option Said
-put_says words = do
-  operands ← two_parts words
-  place ← attribute_of operands.0
-  value ← value_of operands.1
-  Some (put place.0 place.1 value)
+-- an identifier: `func F`, `classof R`, `mro C`
+abbrev pub identifier : List (List ℕ) → Option (List ℕ)
+identifier words = one_part words >>= identifier_of
 
--- `cut C.x`
-abbrev pub cut_says : List (List ℕ) → Option Said
-cut_says words = do
-  operand ← one_part words
-  place ← attribute_of operand
-  Some (cut place.0 place.1)
+-- two identifiers: `turn R C`, `share R R`
+abbrev pub identifiers : List (List ℕ) → Option (List ℕ × List ℕ)
+identifiers words = do
+  parts ← two_parts words
+  first ← identifier_of parts.0
+  second ← identifier_of parts.1
+  Some (first, second)
+
+-- one identifier or two: `begin R [R]`
+abbrev pub identifier_or_two : List (List ℕ) → Option (List ℕ × Option (List ℕ))
+identifier_or_two [] = None
+identifier_or_two (r ∷ []) = option_map (λ first. (first, None)) (identifier_of r)
+identifier_or_two (r ∷ q ∷ []) = do
+  first ← identifier_of r
+  second ← identifier_of q
+  Some (first, Some second)
+identifier_or_two (r ∷ q ∷ word ∷ rest) = None
+
+-- a class and bases: `class C B..`, `bases C B..`
+abbrev pub class_and_bases : List (List ℕ) → Option (List ℕ × List (List ℕ))
+class_and_bases [] = None
+class_and_bases (c ∷ words) = do
+  name ← identifier_of c
+  if are_bases words then Some (name, words) else None
+
+-- an attribute: `cut C.x`, `del R.x`, `get R.x`, `special R.x`
+abbrev pub attribute : List (List ℕ) → Option (List ℕ × List ℕ)
+attribute words = one_part words >>= attribute_of
+
+-- an attribute and a value: `put C.x V`, `set R.x V`
+abbrev pub attribute_and_value : List (List ℕ) → Option ((List ℕ × List ℕ) × Written)
+attribute_and_value words = do
+  parts ← two_parts words
+  place ← attribute_of parts.0
+  value ← value_of parts.1
+  Some (place, value)
+
+-- an identifier and an attribute: `super C R.x`
+abbrev pub identifier_and_attribute : List (List ℕ) → Option (List ℕ × (List ℕ × List ℕ))
+identifier_and_attribute words = do
+  parts ← two_parts words
+  name ← identifier_of parts.0
+  place ← attribute_of parts.1
+  Some (name, place)
+
+-- an identifier and a value: `let a V`
+abbrev pub identifier_and_value : List (List ℕ) → Option (List ℕ × Written)
+identifier_and_value words = do
+  parts ← two_parts words
+  name ← identifier_of parts.0
+  value ← value_of parts.1
+  Some (name, value)
+
+-- a value: `return V`
+abbrev pub value : List (List ℕ) → Option Written
+value words = one_part words >>= value_of
 
 -- a value that may be left out
-abbrev pub given_of : List (List ℕ) → Option (Option Written)
-given_of [] = Some None
-given_of (word ∷ []) = option_map Some (value_of word)
-given_of (word ∷ next ∷ rest) = None
+abbrev pub given : List (List ℕ) → Option (Option Written)
+given [] = Some None
+given (word ∷ []) = option_map Some (value_of word)
+given (word ∷ next ∷ rest) = None
 
--- `new a C [V]`
-abbrev pub new_says : List (List ℕ) → Option Said
-new_says [] = None
-new_says (a ∷ []) = None
-new_says (a ∷ c ∷ rest) = do
-  variable ← identifier_of a
-  given ← given_of rest
-  Some (new variable c given)
+-- two identifiers, and a value that may be left out: `new a C [V]`
+abbrev pub identifiers_and_given : List (List ℕ) → Option ((List ℕ × List ℕ) × Option Written)
+identifiers_and_given [] = None
+identifiers_and_given (a ∷ []) = None
+identifiers_and_given (a ∷ c ∷ rest) = do
+  first ← identifier_of a
+  second ← identifier_of c
+  value ← given rest
+  Some ((first, second), value)
 
--- `mro C`
-abbrev pub mro_says : List (List ℕ) → Option Said
-mro_says words = option_map mro (one_part words)
+-- an attribute, and a value that may be left out: `call R.x [V]`
+abbrev pub attribute_and_given : List (List ℕ) → Option ((List ℕ × List ℕ) × Option Written)
+attribute_and_given [] = None
+attribute_and_given (word ∷ rest) = do
+  place ← attribute_of word
+  value ← given rest
+  Some (place, value)
 
--- `set R.x V`
-abbrev pub set_says : List (List ℕ) → Option Said
-set_says words = do
-  operands ← two_parts words
-  place ← owned_of operands.0
-  value ← value_of operands.1
-  Some (set place.0 place.1 value)
+-- an identifier, an attribute, and a value that may be left out: `callsuper C R.x [V]`
+abbrev pub identifier_attribute_and_given : List (List ℕ) → Option (List ℕ × (List ℕ × List ℕ) × Option Written)
+identifier_attribute_and_given [] = None
+identifier_attribute_and_given (c ∷ []) = None
+identifier_attribute_and_given (c ∷ word ∷ rest) = do
+  name ← identifier_of c
+  place ← attribute_of word
+  value ← given rest
+  Some (name, place, value)
 
--- `del R.x`
-abbrev pub del_says : List (List ℕ) → Option Said
-del_says words = do
-  operand ← one_part words
-  place ← owned_of operand
-  Some (del place.0 place.1)
+-- nothing
+abbrev pub alone : Said → List (List ℕ) → Option Said
+alone said [] = Some said
+alone said (word ∷ words) = None
 
--- `get R.x`
-abbrev pub get_says : List (List ℕ) → Option Said
-get_says words = do
-  operand ← one_part words
-  place ← owned_of operand
-  Some (get place.0 place.1)
-
--- `super C R.x`
-abbrev pub super_says : List (List ℕ) → Option Said
-super_says words = do
-  operands ← two_parts words
-  place ← owned_of operands.1
-  Some (super_read operands.0 place.0 place.1)
-
--- `special R.x`
-abbrev pub special_says : List (List ℕ) → Option Said
-special_says words = do
-  operand ← one_part words
-  place ← owned_of operand
-  Some (special place.0 place.1)
-
--- `classof R`
-abbrev pub classof_says : List (List ℕ) → Option Said
-classof_says words = do
-  operand ← one_part words
-  owner ← class_word_of operand
-  Some (classof owner)
-
--- what the words after the first say, where that is a word for what is done with an object
-abbrev pub object_says : List ℕ → List (List ℕ) → Option Said
-object_says word rest =
-    if bytes_eq word (codes "set")
-    then set_says rest
-    else if bytes_eq word (codes "del")
-    then del_says rest
-    else if bytes_eq word (codes "get")
-    then get_says rest
-    else if bytes_eq word (codes "super")
-    then super_says rest
-    else if bytes_eq word (codes "special")
-    then special_says rest
-    else if bytes_eq word (codes "classof") then classof_says rest else None
-
--- what the words of a line say
-abbrev pub words_say : List (List ℕ) → Option Said
-words_say [] = None
-words_say (word ∷ rest) =
-    if bytes_eq word (codes "class")
-    then class_says rest
-    else if bytes_eq word (codes "put")
-    then put_says rest
-    else if bytes_eq word (codes "cut")
-    then cut_says rest
-    else if bytes_eq word (codes "new")
-    then new_says rest
-    else if bytes_eq word (codes "mro") then mro_says rest else object_says word rest
-
--- the class that a line of these words declares
-abbrev pub declared_by : List (List ℕ) → Option (List ℕ)
-declared_by [] = None
-declared_by (word ∷ []) = None
-declared_by (word ∷ c ∷ rest) = if bytes_eq word (codes "class") then identifier_of c else None
+-- What the words after a keyword say with it. A line that begins with `attrs` says something as the first alone.
+abbrev pub words_say : keyword.Keyword → List (List ℕ) → Option Said
+words_say keywords.Attrs words = None
+words_say keywords.Budget words = option_map budget (one_part words >>= number_of)
+words_say keywords.Func words = option_map func (identifier words)
+words_say keywords.Main words = alone main words
+words_say keywords.Thread words = alone thread words
+words_say keywords.Finally words = alone finally words
+words_say keywords.End words = alone end words
+words_say keywords.Class words = option_map (λ p. class p.0 p.1) (class_and_bases words)
+words_say keywords.Bases words = option_map (λ p. bases p.0 p.1) (class_and_bases words)
+words_say keywords.Put words = option_map (λ p. put p.0.0 p.0.1 p.1) (attribute_and_value words)
+words_say keywords.Cut words = option_map (λ p. cut p.0 p.1) (attribute words)
+words_say keywords.New words = option_map (λ p. new p.0.0 p.0.1 p.1) (identifiers_and_given words)
+words_say keywords.Set words = option_map (λ p. set p.0.0 p.0.1 p.1) (attribute_and_value words)
+words_say keywords.Del words = option_map (λ p. del p.0 p.1) (attribute words)
+words_say keywords.Get words = option_map (λ p. get p.0 p.1) (attribute words)
+words_say keywords.Turn words = option_map (λ p. turn p.0 p.1) (identifiers words)
+words_say keywords.Share words = option_map (λ p. share p.0 p.1) (identifiers words)
+words_say keywords.Super words = option_map (λ p. super_read p.0 p.1.0 p.1.1) (identifier_and_attribute words)
+words_say keywords.Special words = option_map (λ p. special p.0 p.1) (attribute words)
+words_say keywords.ClassOf words = option_map classof (identifier words)
+words_say keywords.Mro words = option_map mro (identifier words)
+words_say keywords.Call words = option_map (λ p. call p.0.0 p.0.1 p.1) (attribute_and_given words)
+words_say keywords.CallSuper words =
+    option_map (λ p. super_call p.0 p.1.0 p.1.1 p.2) (identifier_attribute_and_given words)
+words_say keywords.Let words = option_map (λ p. bind p.0 p.1) (identifier_and_value words)
+words_say keywords.Return words = option_map result (value words)
+words_say keywords.Begin words = option_map (λ p. begin p.0 p.1) (identifier_or_two words)
+words_say keywords.Finish words = alone finish words
+words_say keywords.Checkpoint words = alone checkpoint words

@@ -2,7 +2,6 @@
 use Rattle.std.specs.Prelude.{ℕ, ◌==◌, nat_eq, nat_le, Bool, false, not, ◌&&◌, ◌||◌, List, [], ◌∷◌, length, Option, Some, None, if◌then◌else◌, codes, bytes_eq, ℤ, pos, negsuc, int_le}
 use Rattle.std.specs.List.{list_all, starts_with, ends_with}
 use Rattle.std.specs.Char.{is_ascii_alphabetic, is_ascii_alphanumeric}
-use Rattle.std.specs.Fmt.{signed_decimal}
 use Rattle.std.specs.Str.Parse.{signed_digits_value}
 use Rattle.at_script.specs.Bytes as bytes
 use Rattle.at_script.specs.Limits as limits
@@ -15,20 +14,28 @@ begins_identifier byte = is_ascii_alphabetic byte || byte == bytes.underscore
 abbrev pub continues_identifier : ℕ → Bool
 continues_identifier byte = is_ascii_alphanumeric byte || byte == bytes.underscore
 
--- a letter or `_`, and then letters, digits or `_`
-abbrev pub has_identifier_form : List ℕ → Bool
-has_identifier_form [] = false
-has_identifier_form (first ∷ rest) = begins_identifier first && list_all continues_identifier rest
+-- An identifier is a letter or `_`, and then letters, digits or `_`. It may still be too long, or reserved.
+abbrev pub is_identifier : List ℕ → Bool
+is_identifier [] = false
+is_identifier (first ∷ rest) = begins_identifier first && list_all continues_identifier rest
+
+abbrev pub is_short : List ℕ → Bool
+is_short word = nat_le (length word) limits.most_identifier_bytes
+
+-- what a running function was given, and the result of the last read or call
+abbrev pub is_register : List ℕ → Bool
+is_register word = bytes_eq word (codes "self") || bytes_eq word (codes "arg") || bytes_eq word (codes "other") || bytes_eq word (codes "it")
+
+abbrev pub is_object : List ℕ → Bool
+is_object word = bytes_eq word (codes "object")
 
 -- the words that scripts use for something else than a name
 abbrev pub is_reserved : List ℕ → Bool
-is_reserved word =
-    bytes_eq word (codes "none") || bytes_eq word (codes "self") || bytes_eq word (codes "arg") || bytes_eq word (codes "other")
-    || bytes_eq word (codes "it") || bytes_eq word (codes "object")
+is_reserved word = bytes_eq word (codes "none") || is_register word || is_object word
 
--- an identifier has no more bytes than it may and isn't reserved
-abbrev pub is_identifier : List ℕ → Bool
-is_identifier word = nat_le (length word) limits.most_identifier_bytes && has_identifier_form word && not (is_reserved word)
+-- an identifier that a script may give a meaning
+abbrev pub is_free : List ℕ → Bool
+is_free word = is_short word && not (is_reserved word)
 
 -- Names that begin and end with `__` belong to the language (Python language reference, section 2.3.2).
 abbrev pub is_system_name : List ℕ → Bool
@@ -51,22 +58,12 @@ is_method_name word =
 abbrev pub is_open_name : List ℕ → Bool
 is_open_name word = not (is_system_name word) || is_access_name word || is_method_name word
 
--- An attribute may have any identifier for a name but `mro` and the names of the language that aren't listed here.
+-- An attribute may be called by any free identifier but `mro` and the names of the language that aren't listed here.
 abbrev pub is_attribute_name : List ℕ → Bool
-is_attribute_name word = is_identifier word && not (bytes_eq word (codes "mro")) && is_open_name word
-
--- a class is named by an identifier or by `object`
-abbrev pub is_class_word : List ℕ → Bool
-is_class_word word = is_identifier word || bytes_eq word (codes "object")
+is_attribute_name word = is_free word && not (bytes_eq word (codes "mro")) && is_open_name word
 
 abbrev pub identifier_of : List ℕ → Option (List ℕ)
 identifier_of word = if is_identifier word then Some word else None
-
-abbrev pub attribute_name_of : List ℕ → Option (List ℕ)
-attribute_name_of word = if is_attribute_name word then Some word else None
-
-abbrev pub class_word_of : List ℕ → Option (List ℕ)
-class_word_of word = if is_class_word word then Some word else None
 
 -- the signed numbers of 32 bits
 abbrev pub least_integer : ℤ
@@ -78,8 +75,27 @@ greatest_integer = pos 2147483647
 abbrev pub is_in_range : ℤ → Bool
 is_in_range z = int_le least_integer z && int_le z greatest_integer
 
--- The number in the range of 32 bits whose decimal text is the word: the value of its digits, if it is written so.
-abbrev pub integer_of : List ℕ → Option ℤ
-integer_of word =
-    let z = signed_digits_value 10 word in
-    if is_in_range z && bytes_eq (signed_decimal z) word then Some z else None
+-- how many statements each thread may begin
+abbrev pub is_budget : ℤ → Bool
+is_budget z = int_le (pos 1) z && int_le z (pos limits.most_budget)
+
+abbrev pub is_digit : ℕ → Bool
+is_digit byte = nat_le bytes.zero byte && nat_le byte bytes.nine
+
+-- digits of which the first isn't `0`
+abbrev pub is_positive : List ℕ → Bool
+is_positive [] = false
+is_positive (first ∷ rest) = is_digit first && not (first == bytes.zero) && list_all is_digit rest
+
+-- after a `-`
+abbrev pub is_negative : List ℕ → Bool
+is_negative [] = false
+is_negative (first ∷ rest) = first == bytes.minus && is_positive rest
+
+-- `0`, or digits without a leading zero, after a `-` or not
+abbrev pub is_number : List ℕ → Bool
+is_number word = bytes_eq word (codes "0") || is_positive word || is_negative word
+
+-- the number that the word writes
+abbrev pub number_of : List ℕ → Option ℤ
+number_of word = if is_number word then Some (signed_digits_value 10 word) else None

@@ -1,6 +1,7 @@
 //! Why a script isn't read.
 ghost use Rattle.std.specs.Prelude.{◌≡◌};
 ghost use Rattle.at_script.specs.declared.fault.ReadFault.TheVariants.{NoMemory};
+ghost use Rattle.at_script.specs.Reading.{fault_of, both_of, read_fault};
 
 use std::alloc::AllocError;
 use std::error::Error;
@@ -31,8 +32,6 @@ pub enum Cause {
     Limit,
     /// The input ends too early.
     End,
-    /// The input is no script; the line isn't said.
-    Script,
 }
 
 impl fmt::Display for Cause {
@@ -49,7 +48,6 @@ impl fmt::Display for Cause {
             Cause::Func => "a function that no line declares",
             Cause::Limit => "more than a script may have",
             Cause::End => "the input ends too early",
-            Cause::Script => "the input is no script",
         })
     }
 }
@@ -59,8 +57,8 @@ impl Error for Cause {}
 /// Why a script isn't read.
 #[derive(Clone, Copy, Debug, PartialEq, Eq)]
 pub enum ReadFault {
-    /// The input is no script: the line, from 1, and what is wrong with it. Where the cause is `Cause::Script`, the
-    /// line is 0.
+    /// The input is no script: the first line with which something is wrong, from 1, and what that is first. Where the
+    /// input ends too early, the line is the one that is missing.
     Refused { line: u32, cause: Cause },
     /// Memory ran out.
     NoMemory,
@@ -84,3 +82,70 @@ impl fmt::Display for ReadFault {
 }
 
 impl Error for ReadFault {}
+
+/// Why a line isn't read.
+#[derive(Clone, Copy, PartialEq, Eq)]
+pub enum LineFault {
+    /// What is wrong with the line.
+    Wrong(Cause),
+    /// Memory ran out.
+    NoMemory,
+}
+
+impl From<AllocError> for LineFault {
+    ghost use Rattle.at_script.specs.declared.fault.LineFault.TheVariants as line_faults;
+
+    ghost from_gives = { λ _ fault. fault ≡ line_faults.NoMemory };
+
+    fn from(_: AllocError) -> LineFault {
+        LineFault::NoMemory
+    }
+}
+
+impl LineFault {
+    /// The fault with the number of the line.
+    pub fn at(self, line: u32) -> ReadFault
+        ensures { result ≡ read_fault line self }
+    {
+        match self {
+            LineFault::Wrong(cause) => ReadFault::Refused { line, cause },
+            LineFault::NoMemory => ReadFault::NoMemory,
+        }
+    }
+
+    /// Of two faults of a line, that which is said: out of memory, or the cause that comes first.
+    fn or(self, other: LineFault) -> LineFault
+        ensures { result ≡ fault_of self other }
+    {
+        let LineFault::Wrong(first) = self else {
+            return LineFault::NoMemory;
+        };
+        let LineFault::Wrong(second) = other else {
+            return LineFault::NoMemory;
+        };
+        if first as u8 <= second as u8 {
+            self
+        } else {
+            other
+        }
+    }
+}
+
+/// Two parts of a line, where neither is wrong.
+pub fn both<A: Drop, B: Drop>(
+    first: Result<A, LineFault>,
+    second: Result<B, LineFault>,
+) -> Result<(A, B), LineFault>
+    ensures { result ≡ both_of first second }
+{
+    match first {
+        Ok(first) => match second {
+            Ok(second) => Ok((first, second)),
+            Err(fault) => Err(fault),
+        },
+        Err(fault) => match second {
+            Ok(_) => Err(fault),
+            Err(other) => Err(fault.or(other)),
+        },
+    }
+}

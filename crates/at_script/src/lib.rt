@@ -2,13 +2,22 @@
 //! text.
 #![tactic(auto)]
 
+mod examples;
 mod fault;
+mod forms;
+mod keyword;
+mod laws;
+mod lines;
 mod literal;
+mod meaning;
 mod number;
-mod pieces;
+mod numbering;
+mod operands;
 mod reader;
 mod script;
-mod shape;
+mod so_far;
+mod stage;
+mod statements;
 mod stmt;
 mod tables;
 #[cfg(test)]
@@ -16,6 +25,7 @@ mod tests;
 mod word;
 
 pub use fault::{Cause, ReadFault};
+pub use laws::{nothing_behind_counts, offence_is_the_first, scripts_have_no_offence};
 pub use reader::read;
 pub use script::Script;
 pub use stmt::{Block, Operand, Stmt, Target};

@@ -1,23 +1,23 @@
-//! Values as a script writes them.
+//! Values as a script writes them, told apart by their form alone.
 ghost use Rattle.std.specs.Prelude.{◌≡◌};
 ghost use Rattle.std.specs.Option.{option_map, option_copied};
 ghost use Rattle.at_script.specs.Literals.{quoted_of, function_of, property_of, wrapped_of, value_of};
 ghost use Rattle.at_script.specs.Views.{written};
 
-use crate::number::integer_of;
-use crate::pieces::{Part, Pieces};
-use crate::word::{class_word_of, identifier_of};
+use crate::lines::halves;
+use crate::number::Numeral;
+use crate::word::identifier_of;
 
 /// A value whose names are still to be looked up.
 #[derive(Clone, Copy)]
 pub enum Literal<'a> {
     /// `none`.
     Nothing,
-    /// A number of 32 bits.
-    Int(i32),
+    /// The decimal text of a number, which may be too large.
+    Number(Numeral<'a>),
     /// A text: an identifier between double quotes.
     Text(&'a str),
-    /// The name of a class, a function or a variable.
+    /// The name of a class, a function or a variable, or `self`, `arg`, `other` or `it`.
     Word(&'a str),
     /// `static:F`.
     Static(&'a str),
@@ -31,7 +31,8 @@ pub enum Literal<'a> {
 fn quoted_of(word: &[u8]) -> Option<&str>
     ensures { option_copied result ≡ quoted_of word.now }
 {
-    let (before, text, after) = Pieces::new(word, Part::Quote).three()?;
+    let (before, rest) = halves(b'"', word)?;
+    let (text, after) = halves(b'"', rest)?;
     if before.is_empty() && after.is_empty() {
         identifier_of(text)
     } else {
@@ -53,7 +54,8 @@ fn function_of(word: &[u8]) -> Option<Option<&str>>
 fn property_of(word: &[u8]) -> Option<Literal<'_>>
     ensures { option_map written result ≡ property_of word.now }
 {
-    let (get, set, del) = Pieces::new(word, Part::Comma).three()?;
+    let (get, rest) = halves(b',', word)?;
+    let (set, del) = halves(b',', rest)?;
     Some(Literal::Prop(function_of(get)?, function_of(set)?, function_of(del)?))
 }
 
@@ -61,7 +63,7 @@ fn property_of(word: &[u8]) -> Option<Literal<'_>>
 fn wrapped_of(word: &[u8]) -> Option<Literal<'_>>
     ensures { option_map written result ≡ wrapped_of word.now }
 {
-    let (kind, functions) = Pieces::new(word, Part::Colon).two()?;
+    let (kind, functions) = halves(b':', word)?;
     if kind == b"static".as_slice() {
         Some(Literal::Static(identifier_of(functions)?))
     } else if kind == b"classm".as_slice() {
@@ -73,18 +75,18 @@ fn wrapped_of(word: &[u8]) -> Option<Literal<'_>>
     }
 }
 
-/// The value that the word writes.
+/// The value of this form.
 pub fn value_of(word: &[u8]) -> Option<Literal<'_>>
     ensures { option_map written result ≡ value_of word.now }
 {
     if word == b"none".as_slice() {
         return Some(Literal::Nothing);
     }
-    if let Some(name) = class_word_of(word) {
+    if let Some(name) = identifier_of(word) {
         return Some(Literal::Word(name));
     }
-    if let Some(number) = integer_of(word) {
-        return Some(Literal::Int(number));
+    if let Some(number) = Numeral::of(word) {
+        return Some(Literal::Number(number));
     }
     if let Some(text) = quoted_of(word) {
         return Some(Literal::Text(text));

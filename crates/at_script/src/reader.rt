@@ -1,255 +1,414 @@
 //! The reader of scripts.
-ghost use Rattle.std.specs.Prelude.{◌≡◌, [], false, Some, None, IfOk, IfErr, if◌then◌else◌};
-ghost use Rattle.std.specs.List.{list_all};
-ghost use Rattle.std.specs.Option.{option_map, option_copied};
+ghost use Rattle.std.specs.Prelude.{◌≡◌, ◌<◌, ◌+◌, ◌^◌, ◌≤◌, ◌∷◌, ◌++◌, [], length, map, codes, string_bytes, Ok, Err, IfOk, IfErr, OnOk, OnErr};
+ghost use Rattle.at_script.specs.declared.fault.LineFault.TheVariants as line_faults;
 ghost use Rattle.at_value.specs.Widths as widths;
-ghost use Rattle.at_script.specs.Views.{pieces_left};
-ghost use Rattle.at_script.specs.Shapes.{declared_by};
+ghost use Rattle.at_script.specs.Limits as limits;
+ghost use Rattle.at_script.specs.Lines.{lines_of, words_in, begins_with_hash};
+ghost use Rattle.at_script.specs.Meanings.{now_of};
+ghost use Rattle.at_script.specs.Words.{is_budget};
+ghost use Rattle.at_script.specs.Pieces.{two_parts};
+ghost use Rattle.at_script.specs.Views.{words_left};
+ghost use Rattle.at_script.specs.State.{before_all, parts_of};
+ghost use Rattle.at_script.specs.Causes.{are_words};
+ghost use Rattle.at_script.specs.Reading.{texts_in, IfTold};
+ghost use Rattle.at_script.specs.LineReading as reading;
+ghost use Rattle.at_script.specs.LineReading.{state_of, left, left_read, IfToldRead};
+ghost use Rattle.at_script.specs.Script.{IsScript, first_offence, ended};
 ghost use Rattle.at_script.specs.Faults.{IsFaultAt};
-ghost use Rattle.at_script.specs.Script.{is_allowed, is_readable, has_only, is_header, without_last_newline, lines_of};
-ghost use Rattle.at_script.specs.Script.{words_in, headed, func_of, after_funcs, funcs_in, with_funcs, declared_in};
-ghost use Rattle.at_script.specs.Script.{script_of_lines, script_of};
-ghost use Rattle.at_script.specs.Reading.{with_declared, stated, with_line, main_of};
-ghost use Rattle.at_name.specs.Texts.{all_interned};
 
-use crate::fault::{Cause, ReadFault};
-use crate::pieces::{Part, Pieces};
+use crate::fault::{Cause, LineFault, ReadFault};
+use crate::keyword::{Keyword, keyword_of};
+use crate::lines::{Words, are_allowed, first_line};
+use crate::number::Numeral;
 use crate::script::Script;
-use crate::shape::{declared_by, shape_of};
+use crate::so_far::Reader;
+use crate::stage::{BlockKind, Stage};
 use crate::stmt::Stmt;
-use crate::tables::{CLASSES_MOST, Tables};
+use crate::tables::Tables;
 use crate::word::identifier_of;
-use at_name::Texts;
 use std::alloc::{AllocError, Global};
+use std::mem;
 
 /// How many bytes a script has at most.
 const BYTES_MOST: usize = 1_048_576;
 
-/// Reads the text of a script, of at most 1,048,576 bytes.
-///
-/// Lines are split at newlines, and the words of a line at blanks, which are spaces, tabs and carriage returns; the
-/// other bytes are those of ASCII that print. A line without words, or whose first word begins with `#`, is skipped,
-/// but for the first. The first line is `attrs 1`. Then come functions, which have no statements for now: the line
-/// `func F` and the line `end` for each. The next line is `main`, the last `end`; between them stand statements:
-/// `class C B..`, `put C.x V`, `cut C.x`, `new a C [V]`, `mro C`, `set R.x V`, `del R.x`, `get R.x`, `super C R.x`,
-/// `special R.x` and `classof R`. C and B are classes, `object` or such as some line declares, with at most eight B;
-/// the C of `class` isn't `object`. a is a variable, which is called as no class and no function is; R is a variable
-/// or a class; x is the name of an attribute, not `mro`, and if it begins and ends with `__` one of thirteen special
-/// names. V is `none`, a number of 32 bits, an identifier in double quotes, a class, a function F, `static:F`,
-/// `classm:F`, `prop:P,P,P` where P is a function or `-`, or a variable. An identifier has at most 32 bytes, and is
-/// none of `none`, `self`, `arg`, `other`, `it` and `object`. There are at most 255 classes with `object`, 4,096 names
-/// and texts with the five special names, 1,024 functions and 1,024 variables. Classes and functions are numbered by
-/// the lines that declare them, names and variables as they first stand in the script.
-///
-/// All other bytes are refused, with line 0 and `Cause::Script`.
-pub fn read(alloc: Global, bytes: &[u8]) -> Result<Script, ReadFault>
-    ensures accepted { IfOk result (λ script. script_of bytes.now ≡ Some script) }
-    ensures refused { IfErr result (IsFaultAt (script_of bytes.now)) }
-{
-    match script_in(alloc, bytes)? {
-        Some(script) => Ok(script),
-        None => Err(ReadFault::Refused {
-            line: 0,
-            cause: Cause::Script,
-        }),
-    }
-}
+/// How many threads a script has at most.
+const THREADS_MOST: usize = 32;
 
-fn script_in(alloc: Global, bytes: &[u8]) -> Result<Option<Script>, AllocError>
-    ensures { IfOk result (λ script. script ≡ script_of bytes.now) }
-{
-    if !is_readable(bytes) {
-        return Ok(None);
-    }
-    match lines_after_header(bytes) {
-        Some(lines) => script_of_lines(alloc, lines),
-        None => Ok(None),
-    }
-}
+/// How many statements each thread may begin, in a script that says none.
+const USUAL_BUDGET: u32 = 10_000;
 
-fn is_allowed(byte: u8) -> bool
-    ensures { result ≡ is_allowed byte }
-{
-    byte == b'\n' || byte == b'\t' || byte == b'\r' || (b' ' <= byte && byte <= b'~')
-}
+/// How many statements each thread may begin at most.
+const BUDGET_MOST: i32 = 100_000;
 
-fn are_allowed(bytes: &[u8]) -> bool
-    ensures { result ≡ list_all is_allowed bytes.now }
+fn wrong<T>(cause: Cause) -> Result<T, LineFault>
+    ensures { result ≡ Err (line_faults.Wrong cause) }
 {
-    bytes.iter().all(|byte| is_allowed(*byte))
-}
-
-fn is_readable(bytes: &[u8]) -> bool
-    ensures { result ≡ is_readable bytes.now }
-{
-    bytes.len() <= BYTES_MOST && are_allowed(bytes)
-}
-
-fn has_only(word: &[u8], line: &[u8]) -> bool
-    ensures { result ≡ has_only word.now line.now }
-{
-    match Pieces::new(line, Part::Word).one() {
-        Some(other) => other == word,
-        None => false,
-    }
+    Err(LineFault::Wrong(cause))
 }
 
 fn is_header(line: &[u8]) -> bool
-    ensures { result ≡ is_header line.now }
+    ensures { result ≡ are_words (codes "attrs") (codes "1") (two_parts (words_in line.now)) }
 {
-    match Pieces::new(line, Part::Word).two() {
+    match Words::new(line).two() {
         Some((first, second)) => first == b"attrs".as_slice() && second == b"1".as_slice(),
         None => false,
     }
 }
 
-/// The bytes without a newline at their end, which begins no line.
-fn without_last_newline(bytes: &[u8]) -> &[u8]
-    ensures { result.now ≡ without_last_newline bytes.now }
+fn is_budget(number: i32) -> bool
+    ensures { result ≡ is_budget number }
 {
-    if bytes.ends_with(b"\n") {
-        &bytes[..bytes.len() - 1]
-    } else {
-        bytes
-    }
+    1 <= number && number <= BUDGET_MOST
 }
 
-fn lines_after_header(bytes: &[u8]) -> Option<Pieces<'_>>
-    ensures { option_map pieces_left result ≡ headed (lines_of bytes.now) }
+/// The number of a line `budget NUMBER`.
+fn budget_of(words: Words<'_>) -> Result<u32, LineFault>
+    ensures { result ≡ reading.budget_taken (words_left words.entry) }
 {
-    let (header, lines) = Pieces::split_first(without_last_newline(bytes), Part::Line);
-    if is_header(header) { Some(lines) } else { None }
-}
-
-/// The function of a line `func F`.
-fn func_of(line: &[u8]) -> Option<&str>
-    ensures { option_copied result ≡ func_of line.now }
-{
-    let (word, name) = Pieces::new(line, Part::Word).two()?;
-    if word == b"func".as_slice() {
-        identifier_of(name)
-    } else {
-        None
-    }
-}
-
-/// The lines after the line `main`, before which functions without statements stand.
-fn after_funcs(mut lines: Pieces<'_>) -> Option<Pieces<'_>>
-    ensures { option_map pieces_left result ≡ after_funcs false (pieces_left lines.entry) }
-{
-    while let Some(line) = lines.next() {
-        if has_only(b"main", line) {
-            return Some(lines);
-        }
-        if func_of(line).is_none() || !has_only(b"end", lines.next()?) {
-            return None;
-        }
-    }
-    None
-}
-
-fn script_of_lines(alloc: Global, lines: Pieces<'_>) -> Result<Option<Script>, AllocError>
-    ensures { IfOk result (λ script. script ≡ script_of_lines (pieces_left lines.entry)) }
-{
-    let Some(main_lines) = after_funcs(lines) else {
-        return Ok(None);
+    let Some(word) = words.one() else {
+        return wrong(Cause::Form);
     };
-    let mut tables = Tables::initial(alloc)?;
-    if !declare_classes(&mut tables.classes, lines)? {
-        return Ok(None);
-    }
-    if !declare_funcs(&mut tables, lines)? {
-        return Ok(None);
-    }
-    match read_main(alloc, &mut tables, main_lines)? {
-        Some(main) => Ok(Some(Script::of_main(main, tables))),
-        None => Ok(None),
+    let Some(number) = Numeral::of(word) else {
+        return wrong(Cause::Form);
+    };
+    let Some(budget) = number.integer() else {
+        return wrong(Cause::Number);
+    };
+    if is_budget(budget) {
+        Ok(budget as u32)
+    } else {
+        wrong(Cause::Number)
     }
 }
 
-/// Adds the classes that the lines declare. It answers `false` where there are more than there may be.
-fn declare_classes(classes: &mut Texts<CLASSES_MOST>, lines: Pieces<'_>) -> Result<bool, AllocError>
-    ensures { IfOk result (λ fit.
-        all_interned widths.classes classes.old (declared_in (pieces_left lines.entry))
-        ≡ (if fit then Some classes.new else None)) }
+/// Whether the line of this first word is skipped.
+fn begins_with_hash(word: &[u8]) -> bool
+    ensures { result ≡ begins_with_hash word.now }
 {
-    for line in lines {
-        if !declare(classes, line)? {
-            return Ok(false);
+    match word.first() {
+        Some(byte) => *byte == b'#',
+        None => true,
+    }
+}
+
+/// Nothing follows the keyword.
+fn alone(words: Words<'_>) -> Result<(), LineFault>
+    ensures { result ≡ reading.if_alone (words_left words.entry) (Ok tt) }
+{
+    if words.are_none() {
+        Ok(())
+    } else {
+        wrong(Cause::Form)
+    }
+}
+
+fn add_block(blocks: &mut Vec<Vec<Stmt>>, block: Vec<Stmt>) -> Result<(), AllocError>
+    ensures added { IfOk result (λ _. blocks.new.items ≡ blocks.old.items ++ block ∷ []) }
+    ensures unchanged { OnErr result (blocks.new.items ≡ blocks.old.items) }
+{
+    blocks.push(block)?;
+    Ok(())
+}
+
+impl<'a> Reader<'a> {
+    fn new(alloc: Global, tables: Tables<'a>) -> Reader<'a>
+        ensures { state_of result ≡ record (before_all []) { texts = texts_in tables.entry } }
+    {
+        Reader {
+            alloc,
+            tables,
+            stage: Stage::Header,
+            bytes: 0,
+            budget: USUAL_BUDGET,
+            block: Vec::new(alloc),
+            bodies: Vec::new(alloc),
+            main: Vec::new(alloc),
+            threads: Vec::new(alloc),
+            finally: None,
         }
     }
-    Ok(true)
-}
 
-/// Adds the class that the line declares, where it declares one. It answers `false` where that is one too many.
-fn declare(classes: &mut Texts<CLASSES_MOST>, line: &[u8]) -> Result<bool, AllocError>
-    ensures { IfOk result (λ fits.
-        with_declared classes.old (declared_by (words_in line.now)) ≡ (if fits then Some classes.new else None)) }
-{
-    match declared_by(Pieces::new(line, Part::Word)) {
-        Some(class) => Ok(classes.intern(class)?.is_some()),
-        None => Ok(true),
+    /// Reads lines to the end of a text, of which these are the first.
+    fn read_lines(&mut self, text: &'a [u8]) -> Result<(), ReadFault>
+        requires { self.old.bytes ≡ 0 }
+        ensures { IfToldRead result (left_read result (state_of self.new) ≡
+            reading.lines_read 1 (state_of self.old) (lines_of text.now)) }
+    {
+        let mut rest = text;
+        let mut number = 1;
+        while !rest.is_empty() {
+            let (line, after) = first_line(rest);
+            if let Err(fault) = self.read_line(line) {
+                return Err(fault.at(number));
+            }
+            number += 1;
+            rest = after;
+        }
+        match self.stage.end_cause() {
+            Some(cause) => Err(ReadFault::Refused {
+                line: number,
+                cause,
+            }),
+            None => Ok(()),
+        }
     }
-}
 
-/// Adds the functions that the lines declare. It answers `false` where one is called as a class or as one before it is,
-/// or where there are more than there may be.
-fn declare_funcs(tables: &mut Tables, lines: Pieces<'_>) -> Result<bool, AllocError>
-    ensures { IfOk result (λ fit.
-        with_funcs tables.old (funcs_in (pieces_left lines.entry)) ≡ (if fit then Some tables.new else None)) }
-{
-    for line in lines {
-        if let Some(name) = func_of(line) {
-            if !tables.declare_func(name)? {
-                return Ok(false);
+    /// Reads the next line, with the newline that ends it.
+    fn read_line(&mut self, line: &'a [u8]) -> Result<(), LineFault>
+        requires { self.old.bytes + length line.now < 2 ^ 64 }
+        ensures told { IfTold result (left result (state_of self.new) ≡
+            reading.line_read (state_of self.old) line.now) }
+        ensures counted { OnOk result (self.new.bytes ≡ self.old.bytes + length line.now) }
+        ensures few { OnOk result (self.new.bytes ≤ limits.most_bytes) }
+    {
+        if !are_allowed(line) {
+            return wrong(Cause::Byte);
+        }
+        self.read_said(line)?;
+        self.count(line.len())
+    }
+
+    fn read_said(&mut self, line: &'a [u8]) -> Result<(), LineFault>
+        ensures told { IfTold result (left result (state_of self.new) ≡
+            reading.said_read self.old.stage (state_of self.old) line.now) }
+        ensures bytes { self.new.bytes ≡ self.old.bytes }
+    {
+        match self.stage {
+            Stage::Header => self.read_header(line),
+            Stage::Opening
+            | Stage::Functions
+            | Stage::Within(_, _)
+            | Stage::Ending
+            | Stage::Closed => self.read_words(Words::new(line)),
+        }
+    }
+
+    /// Counts the bytes of a line.
+    fn count(&mut self, bytes: usize) -> Result<(), LineFault>
+        requires { self.old.bytes + bytes < 2 ^ 64 }
+        ensures told { left result (state_of self.new) ≡ reading.counted bytes (state_of self.old) }
+        ensures counted { self.new.bytes ≡ self.old.bytes + bytes }
+        ensures few { OnOk result (self.new.bytes ≤ limits.most_bytes) }
+    {
+        self.bytes += bytes;
+        if self.bytes > BYTES_MOST {
+            return wrong(Cause::Limit);
+        }
+        Ok(())
+    }
+
+    fn read_header(&mut self, line: &[u8]) -> Result<(), LineFault>
+        ensures told { IfTold result (left result (state_of self.new) ≡
+            reading.header_read (state_of self.old) line.now) }
+        ensures bytes { self.new.bytes ≡ self.old.bytes }
+    {
+        if !is_header(line) {
+            return wrong(Cause::Header);
+        }
+        self.stage = Stage::Opening;
+        Ok(())
+    }
+
+    fn read_words(&mut self, mut words: Words<'a>) -> Result<(), LineFault>
+        ensures told { IfTold result (left result (state_of self.new) ≡
+            reading.words_read (state_of self.old) (words_left words.entry)) }
+        ensures bytes { self.new.bytes ≡ self.old.bytes }
+    {
+        let Some(word) = words.next() else {
+            return Ok(());
+        };
+        if begins_with_hash(word) {
+            return Ok(());
+        }
+        let Some(keyword) = keyword_of(word) else {
+            return wrong(Cause::Word);
+        };
+        if !self.stage.may_stand(keyword) {
+            return wrong(Cause::Place);
+        }
+        self.read_keyword(keyword, words)
+    }
+
+    fn read_keyword(&mut self, keyword: Keyword, words: Words<'a>) -> Result<(), LineFault>
+        ensures told { IfTold result (left result (state_of self.new) ≡
+            reading.keyword_read (state_of self.old) keyword (words_left words.entry)) }
+        ensures bytes { self.new.bytes ≡ self.old.bytes }
+    {
+        match keyword {
+            Keyword::Budget => {
+                self.budget = budget_of(words)?;
+                self.stage = Stage::Functions;
+                Ok(())
+            }
+            Keyword::Func => self.begin_function(words),
+            Keyword::Main => self.begin_main(words),
+            Keyword::Thread => self.begin_thread(words),
+            Keyword::Finally => self.begin_finally(words),
+            Keyword::End => {
+                alone(words)?;
+                self.end_block()
+            }
+            _ => self.add_statement(keyword, words),
+        }
+    }
+
+    fn begin_main(&mut self, words: Words<'a>) -> Result<(), LineFault>
+        ensures told { IfTold result (left result (state_of self.new) ≡
+            reading.block_read (state_of self.old) BlockKind.Main (words_left words.entry)) }
+        ensures bytes { self.new.bytes ≡ self.old.bytes }
+    {
+        alone(words)?;
+        self.stage = Stage::Within(BlockKind::Main, false);
+        Ok(())
+    }
+
+    fn begin_finally(&mut self, words: Words<'a>) -> Result<(), LineFault>
+        ensures told { IfTold result (left result (state_of self.new) ≡
+            reading.block_read (state_of self.old) BlockKind.Finally (words_left words.entry)) }
+        ensures bytes { self.new.bytes ≡ self.old.bytes }
+    {
+        alone(words)?;
+        self.stage = Stage::Within(BlockKind::Finally, false);
+        Ok(())
+    }
+
+    fn begin_function(&mut self, words: Words<'a>) -> Result<(), LineFault>
+        ensures told { IfTold result (left result (state_of self.new) ≡
+            reading.function_read (state_of self.old) (words_left words.entry)) }
+        ensures bytes { self.new.bytes ≡ self.old.bytes }
+    {
+        let word = match words.one() {
+            Some(word) => word,
+            None => return wrong(Cause::Form),
+        };
+        let Some(name) = identifier_of(word) else {
+            return wrong(Cause::Form);
+        };
+        self.tables.begin_function(name, self.bodies.len())?;
+        self.stage = Stage::Within(BlockKind::Func, false);
+        Ok(())
+    }
+
+    fn begin_thread(&mut self, words: Words<'a>) -> Result<(), LineFault>
+        ensures told { IfTold result (left result (state_of self.new) ≡
+            reading.thread_read (state_of self.old) (words_left words.entry)) }
+        ensures bytes { self.new.bytes ≡ self.old.bytes }
+    {
+        alone(words)?;
+        if self.threads.len() >= THREADS_MOST {
+            return wrong(Cause::Limit);
+        }
+        self.stage = Stage::Within(BlockKind::Thread, false);
+        Ok(())
+    }
+
+    fn end_block(&mut self) -> Result<(), LineFault>
+        ensures told { IfTold result (left result (state_of self.new) ≡ Ok (ended self.old.stage (state_of self.old))) }
+        ensures bytes { self.new.bytes ≡ self.old.bytes }
+    {
+        let Stage::Within(kind, _) = self.stage else {
+            return Ok(());
+        };
+        let block = mem::replace(&mut self.block, Vec::new(self.alloc));
+        match kind {
+            BlockKind::Func => {
+                self.stage = Stage::Functions;
+                add_block(&mut self.bodies, block)?;
+            }
+            BlockKind::Main => {
+                self.stage = Stage::Ending;
+                self.main = block;
+            }
+            BlockKind::Thread => {
+                self.stage = Stage::Ending;
+                add_block(&mut self.threads, block)?;
+            }
+            BlockKind::Finally => {
+                self.stage = Stage::Closed;
+                self.finally = Some(block);
             }
         }
+        Ok(())
     }
-    Ok(true)
-}
 
-/// The statements up to the line `end`, which is the last.
-fn read_main(
-    alloc: Global,
-    tables: &mut Tables,
-    mut lines: Pieces<'_>,
-) -> Result<Option<Vec<Stmt>>, AllocError>
-    ensures { IfOk result (λ main.
-        option_map (λ m. (m.items, tables.new)) main ≡ main_of tables.old [] (pieces_left lines.entry)) }
-{
-    let mut main = Vec::new(alloc);
-    while let Some(line) = lines.next() {
-        if has_only(b"end", line) {
-            return Ok(if lines.next().is_none() {
-                Some(main)
-            } else {
-                None
-            });
+    fn add_statement(&mut self, keyword: Keyword, words: Words<'a>) -> Result<(), LineFault>
+        ensures told { IfTold result (left result (state_of self.new) ≡
+            reading.statement_read (state_of self.old) keyword (words_left words.entry)) }
+        ensures bytes { self.new.bytes ≡ self.old.bytes }
+    {
+        self.tables.begin_line();
+        let statement = self.tables.statement(keyword, words)?;
+        self.block.extend_from_slice(&[statement])?;
+        if let Stage::Within(kind, section) = self.stage {
+            let section = match keyword {
+                Keyword::Begin => true,
+                Keyword::Finish => false,
+                _ => section,
+            };
+            self.stage = Stage::Within(kind, section);
         }
-        if !add_line(tables, &mut main, line)? {
-            return Ok(None);
-        }
+        Ok(())
     }
-    Ok(None)
 }
 
-/// Adds the statement of a line at the end. It answers `false` where the line is none.
-fn add_line(tables: &mut Tables, main: &mut Vec<Stmt>, line: &[u8]) -> Result<bool, AllocError>
-    ensures { IfOk result (λ added.
-        with_line tables.old main.old.items line.now ≡ (if added then Some (main.new.items, tables.new) else None)) }
+/// The texts, in memory of their own.
+fn owned(alloc: Global, texts: &[&str]) -> Result<Vec<String>, AllocError>
+    ensures same { IfOk result (λ owned. map string_bytes owned.items ≡ map now_of texts.now) }
+    ensures count { IfOk result (λ owned. length owned.items ≡ length texts.now) }
 {
-    let Some(statement) = statement_of(tables, line)? else {
-        return Ok(false);
-    };
-    main.extend_from_slice(&[statement])?;
-    Ok(true)
+    let mut owned = Vec::with_capacity(alloc, texts.len())?;
+    for text in texts {
+        owned.push_reserved(String::from_str(alloc, text)?);
+    }
+    Ok(owned)
 }
 
-fn statement_of(tables: &mut Tables, line: &[u8]) -> Result<Option<Stmt>, AllocError>
-    ensures { IfOk result (λ stmt. option_map (λ s. (s, tables.new)) stmt ≡ stated tables.old line.now) }
+/// The script that the lines say, where none is left, and no more classes and functions are declared than there may be.
+fn script_of(reader: Reader<'_>) -> Result<Script, AllocError>
+    requires classes { length reader.tables.classes.items ≤ widths.classes }
+    requires functions { length reader.tables.funcs.items ≤ widths.functions }
+    ensures { IfOk result (λ script. script ≡ parts_of (state_of reader.entry)) }
 {
-    match shape_of(Pieces::new(line, Part::Word)) {
-        Some(shape) => tables.statement(&shape),
-        None => Ok(None),
-    }
+    let Reader {
+        alloc,
+        tables,
+        budget,
+        bodies,
+        main,
+        threads,
+        finally,
+        ..
+    } = reader;
+    let Tables {
+        classes,
+        funcs,
+        vars,
+        names,
+        ..
+    } = tables;
+    Ok(Script {
+        budget,
+        names: owned(alloc, &names)?,
+        classes: owned(alloc, &classes)?,
+        vars: owned(alloc, &vars)?,
+        funcs: owned(alloc, &funcs)?,
+        bodies,
+        main,
+        threads,
+        finally,
+    })
+}
+
+/// Reads the text of a script, of at most 1,048,576 bytes.
+///
+/// A text that is no script is refused with the first line that has an offence, and with the first cause that it has.
+pub fn read(alloc: Global, bytes: &[u8]) -> Result<Script, ReadFault>
+    ensures accepted { IfOk result (IsScript bytes.now) }
+    ensures refused { IfErr result (IsFaultAt (first_offence bytes.now)) }
+{
+    let tables = Tables::declared(alloc, bytes)?;
+    let mut reader = Reader::new(alloc, tables);
+    reader.read_lines(bytes)?;
+    Ok(script_of(reader)?)
 }

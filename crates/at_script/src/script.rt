@@ -1,50 +1,59 @@
 //! Scripts. Contracts see each as the record of its parts.
-ghost use Rattle.std.specs.Prelude.{◌≡◌, ◌≤◌, length, slice_get};
+ghost use Rattle.std.specs.Prelude.{◌≡◌, ◌≤◌, length, map, slice_get, string_bytes};
 ghost use Rattle.std.specs.Option.{option_copied};
 ghost use Rattle.at_value.specs.Widths as widths;
-ghost use Rattle.at_script.specs.Parts.{script_with, block_of};
+ghost use Rattle.at_script.specs.Parts.{block_of};
 ghost use Rattle.at_script.specs.Limits as limits;
 
 use crate::stmt::{Block, Stmt};
-use crate::tables::Tables;
 use at_value::{Class, Func, Name};
 use std::marker::Model;
 
-/// How many statements each thread may begin, in a script that says none.
-const USUAL_BUDGET: u32 = 10_000;
+/// How many variables there may be.
+pub const VARS_MOST: usize = 1024;
 
 /// A script: its statements, and the texts that they name by number.
 #[derive(Drop)]
 pub struct Script {
-    budget: u32,
-    tables: Tables,
-    main: Vec<Stmt>,
+    pub(crate) budget: u32,
+    pub(crate) names: Vec<String>,
+    pub(crate) classes: Vec<String>,
+    pub(crate) vars: Vec<String>,
+    pub(crate) funcs: Vec<String>,
+    pub(crate) bodies: Vec<Vec<Stmt>>,
+    pub(crate) main: Vec<Stmt>,
+    pub(crate) threads: Vec<Vec<Stmt>>,
+    pub(crate) finally: Option<Vec<Stmt>>,
 }
 
 impl Model for Script {
-    ghost use Rattle.std.specs.Prelude.{◌≤◌};
-    ghost use Rattle.at_script.specs.Limits.{most_budget};
-    ghost use Rattle.at_script.specs.Parts.{ScriptParts, script_with};
+    ghost use Rattle.std.specs.Prelude.{◌≤◌, map, length};
+    ghost use Rattle.std.specs.Option.{option_map};
+    ghost use Rattle.at_script.specs.Limits.{most_budget, most_threads, most_variables};
+    ghost use Rattle.std.specs.String.{string_bytes};
+    ghost use Rattle.at_value.specs.Widths as widths;
+    ghost use Rattle.at_script.specs.Parts.{ScriptParts};
 
     ghost Value = { ScriptParts };
 
-    ghost view = { λ s. script_with s.budget s.main.items s.tables };
+    ghost view = { λ s. record {
+      budget = s.budget;
+      names = map string_bytes s.names.items;
+      classes = map string_bytes s.classes.items;
+      vars = map string_bytes s.vars.items;
+      funcs = map string_bytes s.funcs.items;
+      bodies = map (λ block. block.items) s.bodies.items;
+      main = s.main.items;
+      threads = map (λ block. block.items) s.threads.items;
+      finally = option_map (λ block. block.items) s.finally;
+    } };
 
-    ghost invariant = { λ s. (1 ≤ s.budget) × (s.budget ≤ most_budget) };
+    ghost invariant = { λ s. (1 ≤ s.budget) × (s.budget ≤ most_budget) × (length s.threads.items ≤ most_threads)
+        × (length s.names.items ≤ widths.names) × (length s.classes.items ≤ widths.classes)
+        × (length s.vars.items ≤ most_variables) × (length s.funcs.items ≤ widths.functions) };
 }
 
 impl Script {
-    /// The script of these statements of `main`.
-    pub(crate) fn of_main(main: Vec<Stmt>, tables: Tables) -> Script
-        ensures { result ≡ script_with limits.usual_budget main.items tables }
-    {
-        Script {
-            budget: USUAL_BUDGET,
-            tables,
-            main,
-        }
-    }
-
     /// How many statements each thread may begin, from 1 to 100,000.
     pub fn budget(&self) -> u32
         ensures same { result ≡ self.now.budget }
@@ -59,9 +68,7 @@ impl Script {
         ensures same { result ≡ length self.now.threads }
         ensures most { result ≤ limits.most_threads }
     {
-        // No script has threads yet. That follows from the fields, which the prover takes up only where one is read.
-        let _ = &self.main;
-        0
+        self.threads.len() as u8
     }
 
     /// The statements of a block, and none exactly where the script has no such block.
@@ -70,18 +77,12 @@ impl Script {
     {
         match b {
             Block::Main => Some(self.main.as_slice()),
-            Block::Thread(_) | Block::Finally => None,
-            Block::Func(f) => self.body(f),
-        }
-    }
-
-    /// The statements of a function, of which it has none for now.
-    fn body(&self, f: Func) -> Option<&[Stmt]>
-        ensures { option_copied result ≡ slice_get self.now.bodies f }
-    {
-        match self.tables.funcs.text(usize::from(f.number())) {
-            Some(_) => Some(&[]),
-            None => None,
+            Block::Thread(thread) => nth(&self.threads, usize::from(thread)),
+            Block::Finally => match &self.finally {
+                Some(block) => Some(block.as_slice()),
+                None => None,
+            },
+            Block::Func(func) => nth(&self.bodies, usize::from(func.number())),
         }
     }
 
@@ -89,28 +90,28 @@ impl Script {
     pub fn name_text(&self, n: Name) -> Option<&str>
         ensures { option_copied result ≡ slice_get self.now.names n }
     {
-        self.tables.names.text(n)
+        nth_text(&self.names, usize::from(n.number()))
     }
 
     /// The text of a class, and none exactly where the script has none of this number.
     pub fn class_text(&self, c: Class) -> Option<&str>
         ensures { option_copied result ≡ slice_get self.now.classes c }
     {
-        self.tables.classes.text(usize::from(c.number()))
+        nth_text(&self.classes, usize::from(c.number()))
     }
 
     /// The text of a function, and none exactly where the script has none of this number.
     pub fn func_text(&self, f: Func) -> Option<&str>
         ensures { option_copied result ≡ slice_get self.now.funcs f }
     {
-        self.tables.funcs.text(usize::from(f.number()))
+        nth_text(&self.funcs, usize::from(f.number()))
     }
 
     /// The text of a variable, and none exactly where the script has none of this number.
     pub fn var_text(&self, v: u16) -> Option<&str>
         ensures { option_copied result ≡ slice_get self.now.vars v }
     {
-        self.tables.vars.text(usize::from(v))
+        nth_text(&self.vars, usize::from(v))
     }
 
     /// How many attribute names and texts there are, the five special names included.
@@ -118,7 +119,7 @@ impl Script {
         ensures same { result ≡ length self.now.names }
         ensures most { result ≤ widths.names }
     {
-        usize::from(self.tables.names.len())
+        self.names.len()
     }
 
     /// How many classes there are, `object` included.
@@ -126,7 +127,7 @@ impl Script {
         ensures same { result ≡ length self.now.classes }
         ensures most { result ≤ widths.classes }
     {
-        self.tables.classes.len()
+        self.classes.len()
     }
 
     /// How many functions there are.
@@ -134,7 +135,7 @@ impl Script {
         ensures same { result ≡ length self.now.funcs }
         ensures most { result ≤ widths.functions }
     {
-        self.tables.funcs.len()
+        self.funcs.len()
     }
 
     /// How many variables there are.
@@ -142,6 +143,26 @@ impl Script {
         ensures same { result ≡ length self.now.vars }
         ensures most { result ≤ limits.most_variables }
     {
-        self.tables.vars.len()
+        self.vars.len()
+    }
+}
+
+/// The statements of the block with this number.
+fn nth(blocks: &[Vec<Stmt>], number: usize) -> Option<&[Stmt]>
+    ensures { option_copied result ≡ slice_get (map (λ block. block.items) blocks.now) number }
+{
+    match blocks.get(number) {
+        Some(block) => Some(block.as_slice()),
+        None => None,
+    }
+}
+
+/// The text with this number.
+fn nth_text(texts: &[String], number: usize) -> Option<&str>
+    ensures { option_copied result ≡ slice_get (map string_bytes texts.now) number }
+{
+    match texts.get(number) {
+        Some(text) => Some(text.as_str()),
+        None => None,
     }
 }

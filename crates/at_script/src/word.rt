@@ -1,11 +1,9 @@
-//! What a word is: an identifier, or the name of an attribute or a class.
+//! What a word is: an identifier, free or not, and the name of an attribute.
 ghost use Rattle.std.specs.Prelude.{◌≡◌, IsTrue};
 ghost use Rattle.std.specs.List.{list_all};
 ghost use Rattle.std.specs.Option.{option_copied};
-ghost use Rattle.at_script.specs.Words.{begins_identifier, continues_identifier, has_identifier_form, is_reserved};
-ghost use Rattle.at_script.specs.Words.{is_identifier, is_system_name, is_access_name, is_method_name, is_open_name};
-ghost use Rattle.at_script.specs.Words.{is_attribute_name, is_class_word, identifier_of, attribute_name_of};
-ghost use Rattle.at_script.specs.Words.{class_word_of};
+ghost use Rattle.at_script.specs.Words.{begins_identifier, continues_identifier, is_identifier, is_short, is_object, is_register, is_reserved, is_free, is_system_name, is_access_name, is_method_name, is_open_name, is_attribute_name, identifier_of};
+ghost use Rattle.at_script.specs.Views.{register_in};
 
 use std::str;
 
@@ -24,8 +22,15 @@ fn continues_identifier(byte: u8) -> bool
     byte.is_ascii_alphanumeric() || byte == b'_'
 }
 
-fn has_identifier_form(word: &[u8]) -> bool
-    ensures { result ≡ has_identifier_form word.now }
+fn all_continue_identifier(bytes: &[u8]) -> bool
+    ensures { result ≡ list_all continues_identifier bytes.now }
+{
+    bytes.iter().all(|byte| continues_identifier(*byte))
+}
+
+/// Whether the word is a letter or `_`, and then letters, digits or `_`.
+pub fn is_identifier(word: &[u8]) -> bool
+    ensures { result ≡ is_identifier word.now }
 {
     match word.split_first() {
         Some((first, rest)) => begins_identifier(*first) && all_continue_identifier(rest),
@@ -33,35 +38,84 @@ fn has_identifier_form(word: &[u8]) -> bool
     }
 }
 
-fn all_continue_identifier(bytes: &[u8]) -> bool
-    ensures { result ≡ list_all continues_identifier bytes.now }
-{
-    bytes.iter().all(|byte| continues_identifier(*byte))
-}
-
-fn text_of(word: &[u8]) -> &str
-    requires { IsTrue (has_identifier_form word.now) }
+/// The word, which is an identifier.
+pub fn text_of(word: &[u8]) -> &str
+    requires { IsTrue (is_identifier word.now) }
     ensures { result.now ≡ word.now }
 {
     unsafe { str::from_utf8_unchecked(word) }
 }
 
-fn is_reserved(word: &[u8]) -> bool
-    ensures { result ≡ is_reserved word.now }
+/// The word, where it is an identifier. It may still be too long, or reserved.
+pub fn identifier_of(word: &[u8]) -> Option<&str>
+    ensures { option_copied result ≡ identifier_of word.now }
 {
-    word == b"none".as_slice()
-        || word == b"self".as_slice()
-        || word == b"arg".as_slice()
-        || word == b"other".as_slice()
-        || word == b"it".as_slice()
-        || word == b"object".as_slice()
+    if is_identifier(word) {
+        Some(text_of(word))
+    } else {
+        None
+    }
 }
 
-/// Whether the word is an identifier of at most 32 bytes that isn't reserved.
-fn is_identifier(word: &[u8]) -> bool
-    ensures { result ≡ is_identifier word.now }
+/// Whether the identifier has no more bytes than one may have.
+pub fn is_short(word: &str) -> bool
+    ensures { result ≡ is_short word.now }
 {
-    word.len() <= IDENTIFIER_MOST && has_identifier_form(word) && !is_reserved(word)
+    word.len() <= IDENTIFIER_MOST
+}
+
+/// Whether the identifier is `object`.
+pub fn is_object(word: &str) -> bool
+    ensures { result ≡ is_object word.now }
+{
+    word == "object"
+}
+
+/// What a running function was given, and the result of the last read or call.
+#[derive(Clone, Copy, PartialEq, Eq)]
+pub enum Register {
+    SelfArg,
+    Arg,
+    Other,
+    It,
+}
+
+/// The register that the identifier names.
+pub fn register_of(word: &str) -> Option<Register>
+    ensures { result ≡ register_in word.now }
+{
+    if word == "self" {
+        Some(Register::SelfArg)
+    } else if word == "arg" {
+        Some(Register::Arg)
+    } else if word == "other" {
+        Some(Register::Other)
+    } else if word == "it" {
+        Some(Register::It)
+    } else {
+        None
+    }
+}
+
+/// Whether the identifier names a register.
+fn is_register(word: &str) -> bool
+    ensures { result ≡ is_register word.now }
+{
+    word == "self" || word == "arg" || word == "other" || word == "it"
+}
+
+/// Whether scripts use the identifier for something else than a name.
+fn is_reserved(word: &str) -> bool
+    ensures { result ≡ is_reserved word.now }
+{
+    word == "none" || is_register(word) || is_object(word)
+}
+
+/// Whether a script may give the identifier a meaning: it is short and isn't reserved.
+pub fn is_free(word: &str) -> bool
+    ensures { result ≡ is_free word.now }
+{
+    is_short(word) && !is_reserved(word)
 }
 
 /// Whether the word begins and ends with `__`.
@@ -102,47 +156,9 @@ fn is_open_name(word: &[u8]) -> bool
     !is_system_name(word) || is_access_name(word) || is_method_name(word)
 }
 
-fn is_attribute_name(word: &[u8]) -> bool
+/// Whether an attribute may be called so.
+pub fn is_attribute_name(word: &str) -> bool
     ensures { result ≡ is_attribute_name word.now }
 {
-    is_identifier(word) && word != b"mro".as_slice() && is_open_name(word)
-}
-
-fn is_class_word(word: &[u8]) -> bool
-    ensures { result ≡ is_class_word word.now }
-{
-    is_identifier(word) || word == b"object".as_slice()
-}
-
-/// The word, where it is an identifier.
-pub fn identifier_of(word: &[u8]) -> Option<&str>
-    ensures { option_copied result ≡ identifier_of word.now }
-{
-    if is_identifier(word) {
-        Some(text_of(word))
-    } else {
-        None
-    }
-}
-
-/// The word, where it may name an attribute.
-pub fn attribute_name_of(word: &[u8]) -> Option<&str>
-    ensures { option_copied result ≡ attribute_name_of word.now }
-{
-    if is_attribute_name(word) {
-        Some(text_of(word))
-    } else {
-        None
-    }
-}
-
-/// The word, where it may stand for a class.
-pub fn class_word_of(word: &[u8]) -> Option<&str>
-    ensures { option_copied result ≡ class_word_of word.now }
-{
-    if is_class_word(word) {
-        Some(text_of(word))
-    } else {
-        None
-    }
+    is_free(word) && word != "mro" && is_open_name(word.as_bytes())
 }

@@ -3,5 +3,6 @@ pub mod Saying
 pub mod Leading
 pub mod Determined
 pub mod Numbering
+pub mod Counts
 mod Numbers
 pub mod Alone

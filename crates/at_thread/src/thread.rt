@@ -30,6 +30,20 @@ pub(crate) struct Frame<'a> {
 }
 
 impl<'a> Frame<'a> {
+    /// The frame of a block of these statements.
+    fn of_block(block: &'a [Stmt]) -> Frame<'a>
+        ensures { frame_of result ≡ execution.block_frame block.now }
+    {
+        Frame {
+            self_arg: Value::Nothing,
+            other: Value::Nothing,
+            arg: Value::Nothing,
+            rest: block,
+            opened: false,
+            on_return: OnReturn::Nothing,
+        }
+    }
+
     fn with_rest(&self, rest: &'a [Stmt]) -> Frame<'a>
         ensures { frame_of result ≡ record (frame_of self.now) { rest = rest.now } }
     {
@@ -67,14 +81,7 @@ impl<'a> Thread<'a> {
         ensures { IfOk result (λ thread. state_of thread ≡ start block.now variables.items) }
     {
         let mut frames = Stack::new(alloc)?;
-        frames.push(Frame {
-            self_arg: Value::Nothing,
-            other: Value::Nothing,
-            arg: Value::Nothing,
-            rest: block,
-            opened: false,
-            on_return: OnReturn::Nothing,
-        });
+        frames.push(Frame::of_block(block));
         Ok(Thread {
             frames,
             call: None,
@@ -82,6 +89,20 @@ impl<'a> Thread<'a> {
             it: Value::Nothing,
             begun: 0,
         })
+    }
+
+    /// Begins another block, of these statements and with these variables, in place of what it executes. It takes no
+    /// memory.
+    pub fn restart(&mut self, block: &'a [Stmt], variables: &[Option<Value>])
+        requires { length variables.now ≡ length (state_of self.old).variables }
+        ensures { state_of self.new ≡ start block.now variables.now }
+    {
+        self.frames.clear();
+        self.frames.push(Frame::of_block(block));
+        self.call = None;
+        self.variables.copy_from_slice(variables);
+        self.it = Value::Nothing;
+        self.begun = 0;
     }
 
     /// The values of the variables, by number.

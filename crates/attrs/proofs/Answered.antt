@@ -6,7 +6,9 @@ use Rattle.at_script.specs.Parts.{ScriptParts}
 use Rattle.at_script.specs.Script.{script_of}
 use Rattle.attrs.specs.declared.status.Status as status
 use Rattle.attrs.specs.declared.status.Status.TheVariants as statuses
-use Rattle.attrs.specs.Answers.{Running, SourceChange, SinkChange, ReadAll, IsAnswer, IsTextAnswer, IsTextOf, IsTranscript}
+use Rattle.attrs.specs.Answers.{Running, SourceChange, SinkChange, ReadAll, IsAnswer, IsTextAnswer, IsTextOf, IsTranscript, IsPlainAndLegal}
+use Rattle.at_run.specs.PlainRun.{IsPlainRun}
+use Rattle.at_run.specs.LegalRun.{IsLegalRun}
 
 -- an answer to what was read to its end
 pub answered : (Runs : Running) (r : SourceChange) (w : SinkChange) (bytes : List ℕ) (s : status.Status) → ReadAll r bytes → IsTextAnswer Runs bytes w s → IsAnswer Runs r w s
@@ -25,9 +27,9 @@ module _ (Runs Others : Running) (so : (bytes : List ℕ) (s : ScriptParts) (lin
 
   text_so : (bytes written : List ℕ) → IsTextOf Runs bytes written → IsTextOf Others bytes written
   text_so bytes written (inl t) = inl (transcript_so bytes written t)
-  text_so bytes written (inr none) = inr none
+  text_so bytes written (inr refused) = inr refused
 
-  pub answer_so : (r : SourceChange) (w : SinkChange) (s : status.Status) → IsAnswer Runs r w s → IsAnswer Others r w s
+  answer_so : (r : SourceChange) (w : SinkChange) (s : status.Status) → IsAnswer Runs r w s → IsAnswer Others r w s
   answer_so r w statuses.Good (bytes, read, (written, t, wrote)) = (bytes, read, (written, transcript_so bytes written t, wrote))
   answer_so r w (statuses.Refused line cause) answer = answer
   answer_so r w statuses.TooLong answer = answer
@@ -36,6 +38,13 @@ module _ (Runs Others : Running) (so : (bytes : List ℕ) (s : ScriptParts) (lin
   answer_so r w statuses.ReadFault answer = answer
   answer_so r w statuses.WriteFault (inl (bytes, read, (written, t, failed))) = inl (bytes, read, (written, text_so bytes written t, failed))
   answer_so r w statuses.WriteFault (inr long) = inr long
+
+-- what is both is each
+pub plain_of : (r : SourceChange) (w : SinkChange) (s : status.Status) → IsAnswer IsPlainAndLegal r w s → IsAnswer IsPlainRun r w s
+plain_of r w s = answer_so IsPlainAndLegal IsPlainRun (λ bytes p lines last is both. both.0) r w s
+
+pub legal_of : (r : SourceChange) (w : SinkChange) (s : status.Status) → IsAnswer IsPlainAndLegal r w s → IsAnswer IsLegalRun r w s
+legal_of r w s = answer_so IsPlainAndLegal IsLegalRun (λ bytes p lines last is both. both.1) r w s
 
 -- the one of a list
 pub lone : {X Y : Type 0} (f : X → Y) (xs : List X) (x : X) → length xs ≡ 1 → x ≡ get_or xs 0 x → map f xs ≡ f x ∷ []

@@ -1,2 +1,1 @@
-mod MainAlone
 mod Answered

@@ -7,10 +7,12 @@ use Rattle.at_script.specs.declared.fault.Cause as cause
 use Rattle.at_script.specs.declared.fault.Cause.TheVariants as causes
 use Rattle.at_script.specs.Limits.{most_bytes}
 use Rattle.at_script.specs.Parts.{ScriptParts}
-use Rattle.at_script.specs.Script.{script_of}
+use Rattle.at_script.specs.Script.{script_of, first_offence}
 use Rattle.at_text.specs.Transcript.{text}
 use Rattle.at_line.specs.declared.line.Line.{Line}
 use Rattle.at_model.specs.declared.last.Final as final
+use Rattle.at_run.specs.PlainRun.{IsPlainRun}
+use Rattle.at_run.specs.LegalRun.{IsLegalRun}
 use Rattle.attrs.specs.declared.status.Status as status
 use Rattle.attrs.specs.declared.status.Status.TheVariants as statuses
 
@@ -28,7 +30,6 @@ cause_word causes.Class = codes "class"
 cause_word causes.Func = codes "func"
 cause_word causes.Limit = codes "limit"
 cause_word causes.End = codes "end"
-cause_word causes.Script = codes "script"
 
 -- why the bytes are no script
 abbrev pub refusal_text : ℕ → cause.Cause → List ℕ
@@ -113,22 +114,30 @@ WroteNothing w = (w.after ≡ w.before) × (w.faults_after ≡ w.faults_before)
 abbrev pub Running : Type 1
 Running = ScriptParts → List Line → final.Final → Type 0
 
+-- the plain run of a script, where it is legal
+abbrev pub IsPlainAndLegal : Running
+IsPlainAndLegal s lines last = IsPlainRun s lines last × IsLegalRun s lines last
+
 -- the text is the transcript of a run of the script that the bytes are
 abbrev pub IsTranscript : Running → List ℕ → List ℕ → Type 0
 IsTranscript Runs bytes written =
     (s : ScriptParts) × (lines : List Line) × (last : final.Final) ×
     (script_of bytes ≡ Some s) × Runs s lines last × (written ≡ text bytes s lines last)
 
--- the text that is written for an input which was read to its end: the transcript of a run, or that it is no script
+-- the text says what is first wrong with the bytes
+abbrev pub IsRefusal : List ℕ → List ℕ → Type 0
+IsRefusal bytes written =
+    (line : ℕ) × (cause : cause.Cause) × (first_offence bytes ≡ Some (line, cause)) × (written ≡ refusal_text line cause)
+
+-- the text that is written for an input which was read to its end: the transcript of a run, or what is first wrong with it
 abbrev pub IsTextOf : Running → List ℕ → List ℕ → Type 0
-IsTextOf Runs bytes written =
-    IsTranscript Runs bytes written ⊎ ((script_of bytes ≡ None) × (written ≡ refusal_text 0 causes.Script))
+IsTextOf Runs bytes written = IsTranscript Runs bytes written ⊎ IsRefusal bytes written
 
 -- What is so at each answer to an input that was read to its end.
 abbrev pub IsTextAnswer : Running → List ℕ → SinkChange → status.Status → Type 0
 IsTextAnswer Runs bytes w statuses.Good = (written : List ℕ) × IsTranscript Runs bytes written × Wrote w written
 IsTextAnswer Runs bytes w (statuses.Refused line cause) =
-    (script_of bytes ≡ None) × (line ≡ 0) × (cause ≡ causes.Script) × Wrote w (refusal_text line cause)
+    (first_offence bytes ≡ Some (line, cause)) × Wrote w (refusal_text line cause)
 IsTextAnswer Runs bytes w statuses.NoMemory = WroteNothing w
 IsTextAnswer Runs bytes w statuses.WriteFault = (written : List ℕ) × IsTextOf Runs bytes written × FailedWriting w written
 IsTextAnswer Runs bytes w statuses.TooLong = ⊥

@@ -7,13 +7,13 @@ ghost use Rattle.at_run.specs.PlainRun.{IsPlainRun};
 ghost use Rattle.at_run.specs.LegalRun.{IsLegalRun};
 ghost use Rattle.attrs.specs.Answers.{SourceChange, source_change, sink_change, ReadNothing, ReadTooMany, Wrote};
 ghost use Rattle.attrs.specs.Answers.{FailedWriting, WroteNothing, IsAnswer, IsTextAnswer, IsUsageAnswer};
-ghost use Rattle.attrs.specs.Answers.{IsNoCommandAnswer, refusal_text};
+ghost use Rattle.attrs.specs.Answers.{IsNoCommandAnswer, IsPlainAndLegal, refusal_text};
 
 use crate::gate::Gate;
 use crate::status::Status;
 use crate::telling::{refusal, tell};
 use crate::words::given_words;
-use at_run::run_main;
+use at_run::run_plain;
 use at_script::{Cause, ReadFault, Script};
 use at_source::{ReadAllFault, Sink, Source, read_all};
 use at_text::{PrintFault, print};
@@ -101,12 +101,14 @@ fn usage<K: Sink>(out: &mut K) -> Status
     }
 }
 
-/// Reads a script to the end of the source, runs its block `main` on the plain data model, and writes the transcript.
+/// Reads a script to the end of the source, runs it on the plain data model, and writes the transcript.
 /// It waits for nobody. Bytes that are no script, and more bytes than a script may have, are refused by a line on the
 /// sink. A fault is answered only where the source or the sink failed in this call, and what was written whole is
 /// flushed.
 pub fn plain_text<S: Source, K: Sink>(alloc: Global, src: &mut S, out: &mut K) -> Status
-    ensures answer { IsAnswer IsPlainRun (source_change S.left S.faults src.old src.new)
+    ensures plain { IsAnswer IsPlainRun (source_change S.left S.faults src.old src.new)
+        (sink_change K.written K.is_flushed K.faults out.old out.new) result }
+    ensures legal { IsAnswer IsLegalRun (source_change S.left S.faults src.old src.new)
         (sink_change K.written K.is_flushed K.faults out.old out.new) result }
     ensures later { (S.faults src.old ≤ S.faults src.new) × (K.faults out.old ≤ K.faults out.new) }
 {
@@ -120,7 +122,7 @@ pub fn plain_text<S: Source, K: Sink>(alloc: Global, src: &mut S, out: &mut K) -
 
 fn too_long<K: Sink>(out: &mut K) -> Status
     ensures answer { (r : SourceChange) → ReadTooMany r →
-        IsAnswer IsPlainRun r (sink_change K.written K.is_flushed K.faults out.old out.new) result }
+        IsAnswer IsPlainAndLegal r (sink_change K.written K.is_flushed K.faults out.old out.new) result }
     ensures later { K.faults out.old ≤ K.faults out.new }
 {
     match tell(out, b"refused 0 long\n") {
@@ -131,7 +133,7 @@ fn too_long<K: Sink>(out: &mut K) -> Status
 
 /// Writes the transcript of the script of these bytes, or that they are no script.
 fn answer<K: Sink>(alloc: Global, bytes: &[u8], out: &mut K) -> Status
-    ensures answer { IsTextAnswer IsPlainRun bytes.now
+    ensures answer { IsTextAnswer IsPlainAndLegal bytes.now
         (sink_change K.written K.is_flushed K.faults out.old out.new) result }
     ensures later { K.faults out.old ≤ K.faults out.new }
 {
@@ -144,11 +146,11 @@ fn answer<K: Sink>(alloc: Global, bytes: &[u8], out: &mut K) -> Status
 
 fn transcribe<K: Sink>(alloc: Global, bytes: &[u8], script: &Script, out: &mut K) -> Status
     requires { script_of bytes.now ≡ Some script.now }
-    ensures answer { IsTextAnswer IsPlainRun bytes.now
+    ensures answer { IsTextAnswer IsPlainAndLegal bytes.now
         (sink_change K.written K.is_flushed K.faults out.old out.new) result }
     ensures later { K.faults out.old ≤ K.faults out.new }
 {
-    let Ok(ran) = run_main(alloc, script) else {
+    let Ok(ran) = run_plain(alloc, script) else {
         return Status::NoMemory;
     };
     match print(alloc, bytes, script, &ran, out) {

@@ -52,6 +52,5 @@ fn cause_word(cause: Cause) -> &'static str
         Cause::Func => "func",
         Cause::Limit => "limit",
         Cause::End => "end",
-        Cause::Script => "script",
     }
 }

@@ -27,8 +27,6 @@ const TRANSCRIPT: &str = concat!(
     "final\nclass object = object\nclass C = C object\n.x 1\nobject #0 C\nend\n"
 );
 
-const NOT_A_SCRIPT: Status = Status::Refused(0, Cause::Script);
-
 /// How many bytes a source gives and a sink takes in one call, at least one, which call of each fails, and how many
 /// bytes the sink takes in all.
 #[derive(Clone, Copy, Debug)]
@@ -148,12 +146,16 @@ const TEXTS: [(&str, &str, Status); 5] = [
         Status::Good,
     ),
     (FIRST, TRANSCRIPT, Status::Good),
-    ("", "refused 0 script\n", NOT_A_SCRIPT),
-    ("attrs 2\nmain\nend\n", "refused 0 script\n", NOT_A_SCRIPT),
+    ("", "refused 1 header\n", Status::Refused(1, Cause::Header)),
     (
-        "attrs 1\nmain\nset a.\nend\n",
-        "refused 0 script\n",
-        NOT_A_SCRIPT,
+        "attrs 9\nmain\nend\n",
+        "refused 1 header\n",
+        Status::Refused(1, Cause::Header),
+    ),
+    (
+        "attrs 1\nmain\nset a. 1\nend\n",
+        "refused 3 form\n",
+        Status::Refused(3, Cause::Form),
     ),
 ];
 
@@ -247,7 +249,7 @@ fn a_full_sink_has_a_prefix(rt: HostRuntime) -> Result<(), Fail> {
 
 #[test]
 fn a_write_fault_leaves_a_prefix_of_a_refusal(rt: HostRuntime) -> Result<(), Fail> {
-    let refusal = "refused 0 script\n";
+    let refusal = "refused 1 header\n";
     for number in 0..=refusal.len() {
         let written = prefix(refusal, number);
         write_fails(&rt, rt.alloc(), "", &failing_at(number), written)?;

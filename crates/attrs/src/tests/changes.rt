@@ -1,7 +1,7 @@
 //! Runs of scripts in which one line is changed. Each is then no run of its script any more, or isn't legal.
 use super::judging::{Breaks, broken_by, told};
 use at_line::{Line, LineOp, LineReply, Local, Ran, What};
-use at_run::run_main;
+use at_run::run_plain;
 use at_script::{Block, Script, read};
 use at_value::{Class, Func, HookKind, Name, Obj, Op, Path, Place, Reply, Value};
 use at_world::Plain;
@@ -188,7 +188,7 @@ fn run_of(alloc: Global, script: &Script) -> Result<Ran, Fail> {
     if script.threads() > 0 || script.block(Block::Finally).is_some() {
         return Err("the script has other blocks".into());
     }
-    Ok(run_main(alloc, script)?)
+    Ok(run_plain(alloc, script)?)
 }
 
 /// Changes one line of a run at a time.

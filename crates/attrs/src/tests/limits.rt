@@ -1,7 +1,8 @@
 //! Runs that come to a limit, inputs that are too long, and what a script may have between its statements.
-use super::{Ends, NOT_A_SCRIPT, SOUND, command_ends, plain_ends};
+use super::{Ends, SOUND, command_ends, plain_ends};
 use crate::command::TOO_MANY;
 use crate::status::Status;
+use at_script::Cause;
 use std::alloc::{AllocError, Global};
 use std::process::Abort;
 use std::sync::Wait;
@@ -193,7 +194,11 @@ fn long_ends<R: Abort>(
 #[test]
 fn long_inputs_are_refused(rt: HostRuntime) -> Result<(), Fail> {
     for (length, written, status) in [
-        (TOO_MANY - 1, "refused 0 script\n", NOT_A_SCRIPT),
+        (
+            TOO_MANY - 1,
+            "refused 1 header\n",
+            Status::Refused(1, Cause::Header),
+        ),
         (TOO_MANY, "refused 0 long\n", Status::TooLong),
         (1_100_000, "refused 0 long\n", Status::TooLong),
     ] {

@@ -1,11 +1,7 @@
 use Rattle.std.proofs.Common.{ap, refl, Err, inl}
-use Rattle.attrs.proofs.MainAlone.{main_alone}
 use Rattle.attrs.proofs.command.transcribe.Goals as goal
-
-pub run_main-requires : goal.run_main-requires
-run_main-requires g c = main_alone c.args.bytes.now c.args.script.now c.requires
 
 pub returns-clause-answer : goal.returns-clause-answer
 returns-clause-answer g c =
     let fault = ap (λ f. Err f) c.in-Err-WriteFault.field-0-is in
-    (_, inl (c.args.script.now, _, _, c.requires, c.in-Ok.ensures, refl), (c.in-Err-WriteFault.ensures.cause fault, c.in-Err-WriteFault.ensures.prefix fault))
+    (_, inl (c.args.script.now, _, _, c.requires, (c.in-Ok.ensures.plain, c.in-Ok.ensures.legal), refl), (c.in-Err-WriteFault.ensures.cause fault, c.in-Err-WriteFault.ensures.prefix fault))
