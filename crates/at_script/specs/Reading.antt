@@ -1,9 +1,8 @@
 -- private: about the reader's own types; no public clause cites it. What the reader finds of each operand of a line, in
 -- the texts so far: its value, or the first thing that is wrong with it.
-use Rattle.std.specs.Prelude.{ℕ, ◌≡◌, nat_le, nat_lt, ◌||◌, Bool, true, false, List, [], ◌∷◌, map, length, take, Option, Some, None, Result, Ok, Err, is_some, is_none, if◌then◌else◌, ◌++◌, codes}
-use Rattle.std.specs.Option.{option_map, option_to_list}
+use Rattle.std.specs.Prelude.{ℕ, nat_le, nat_lt, Bool, false, List, [], ◌∷◌, map, length, Option, Some, None, Result, Ok, Err, if◌then◌else◌, ◌++◌, codes}
+use Rattle.std.specs.Option.{option_to_list}
 use Rattle.std.specs.List.{find}
-use Rattle.std.specs.Borrow.{Bor}
 use Rattle.at_script.specs.declared.fault.Cause as cause
 use Rattle.at_script.specs.declared.fault.Cause.TheVariants as causes
 use Rattle.at_script.specs.declared.fault.ReadFault.{ReadFault}
@@ -17,7 +16,7 @@ use Rattle.at_name.specs.Texts.{place_of, special_texts}
 use Rattle.at_script.specs.Lines.{words_in}
 use Rattle.at_script.specs.Texts.{Texts, with_texts, declared_by}
 use Rattle.at_script.specs.Uses.{Use}
-use Rattle.at_script.specs.Causes.{is_out_of_range, is_misnamed, is_no_class, is_no_function, is_one_too_many, are_too_many}
+use Rattle.at_script.specs.Causes.{is_out_of_range, is_misnamed, is_no_class, is_no_function, is_one_too_many}
 
 -- What the tables have
 
