@@ -1,11 +1,10 @@
 -- Identifiers are ASCII.
-use Rattle.std.proofs.Common.{◌≡◌, ap, refl, ℕ, ◌<◌, List, [], ◌∷◌, arith, Bool, true, false, not, ◌&&◌, ◌||◌, bytes_eq, codes}
+use Rattle.std.proofs.Common.{◌≡◌, refl, ℕ, ◌<◌, List, [], ◌∷◌, arith, Bool, true, false, ◌&&◌}
 use Rattle.std.specs.List.{list_all}
 use Rattle.std.specs.Str.{IsAscii, IsUtf8}
 use Rattle.std.proofs.lemmas.Str.{IsUtf8-from_ascii}
 use Rattle.std.proofs.lemmas.Str.Ascii.{IsAscii-nil, IsAscii-cons}
 use Rattle.std.proofs.lemmas.Bool.Decides.{nat_tests}
-use Rattle.std.proofs.lemmas.Slice.Eq.{bytes_eq-Decides}
 use Rattle.at_script.specs.Words.{begins_identifier, continues_identifier, is_identifier}
 
 begins_ascii : (b : ℕ) → begins_identifier b ≡ true → b < 128

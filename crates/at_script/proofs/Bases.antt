@@ -1,5 +1,5 @@
 -- The classes of bases, one word after another.
-use Rattle.std.proofs.Common.{◌≡◌, refl, ℕ, suc, ◌+◌, ◌≤◌, arith, List, [], ◌∷◌, ◌++◌, length, Result, Ok, Err, length-append}
+use Rattle.std.proofs.Common.{ℕ, suc, ◌+◌, ◌≤◌, arith, List, [], ◌∷◌, ◌++◌, length, Result, Ok, Err, length-append}
 use Rattle.std.specs.Prelude.{IfOk}
 use Rattle.at_script.specs.declared.fault.LineFault.{LineFault}
 use Rattle.at_script.specs.Reading.{both_of}

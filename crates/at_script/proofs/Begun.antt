@@ -1,10 +1,9 @@
 -- No more functions begin than there may be: a line that begins one more than that has an offence.
-use Rattle.std.proofs.Common.{◌≡◌, ◌∙◌, ap, refl, sym, subst, ℕ, ◌+◌, ◌<◌, ◌≤◌, arith, List, [], ◌∷◌, ◌++◌, length, Bool, true, false, not, ◌||◌, Option, Some, None, length-append}
+use Rattle.std.proofs.Common.{◌≡◌, refl, sym, subst, ℕ, ◌+◌, ◌<◌, ◌≤◌, arith, List, [], ◌∷◌, ◌++◌, length, Bool, true, false, not, ◌||◌, Option, Some, None, length-append}
 use Rattle.std.specs.List.{list_any}
 use Rattle.std.proofs.lemmas.Bool.{ltb-false, leb-false}
 use Rattle.at_value.specs.Widths as widths
 use Rattle.at_script.specs.declared.fault.Cause.TheVariants as causes
-use Rattle.at_script.specs.declared.stage.BlockKind as block_kind
 use Rattle.at_script.specs.declared.stage.BlockKind.TheVariants as block_kinds
 use Rattle.at_script.specs.declared.stage.Stage as stage
 use Rattle.at_script.specs.declared.stage.Stage.TheVariants as stages
@@ -16,7 +15,7 @@ use Rattle.at_script.specs.Uses as uses
 use Rattle.at_script.specs.Uses.{uses_of}
 use Rattle.at_script.specs.State.{State}
 use Rattle.at_script.specs.Causes.{cause_of, has_cause, is_misnamed, is_one_too_many, was_begun, said_in, read_words, uses_said}
-use Rattle.at_script.specs.Script.{after, after_said, led_by, with_said, ended, ending, in_section, past_header}
+use Rattle.at_script.specs.Script.{after, after_said, led_by, with_said, ended, in_section, past_header}
 use Rattle.at_script.proofs.Limits.{none_holds, no_limit}
 
 -- where a function has begun, it is not among those that ended

@@ -1,5 +1,5 @@
 -- What the reader makes of a line that says a budget, or begins or ends a block.
-use Rattle.std.proofs.Common.{◌≡◌, ◌∙◌, ap, refl, sym, ℕ, ℤ, pos, negsuc, min, ◌+◌, ◌<◌, ◌≤◌, arith, List, [], ◌∷◌, ◌++◌, length, append-nil, Bool, true, false, cond, not, ◌||◌, ◌&&◌, ltb, leb, Option, Some, None, is_none, Result, Ok, Err, inl, inr}
+use Rattle.std.proofs.Common.{◌≡◌, ◌∙◌, ap, refl, sym, ℕ, ℤ, pos, negsuc, ◌+◌, ◌≤◌, arith, List, [], ◌∷◌, ◌++◌, length, append-nil, Bool, true, false, cond, not, ◌||◌, ◌&&◌, ltb, leb, Option, Some, None, Result, Ok, inl, inr}
 use Rattle.std.specs.Option.{option_map}
 use Rattle.std.proofs.lemmas.Bool.{cases_Bool, lt-ltb, le-ltb, ltb-true, ltb-false, le-leb, lt-leb, leb-true, leb-false}
 use Rattle.std.proofs.lemmas.Bool.Decides.{nat_tests}
@@ -7,7 +7,6 @@ use Rattle.at_value.specs.Widths as widths
 use Rattle.at_name.specs.Texts.{place_of}
 use Rattle.at_script.specs.declared.fault.Cause.TheVariants as causes
 use Rattle.at_script.specs.declared.fault.LineFault.{LineFault}
-use Rattle.at_script.specs.declared.fault.LineFault.TheVariants.{Wrong}
 use Rattle.at_script.specs.declared.keyword.Keyword as keyword
 use Rattle.at_script.specs.declared.keyword.Keyword.TheVariants as keywords
 use Rattle.at_script.specs.declared.stage.BlockKind as block_kind
@@ -25,11 +24,10 @@ use Rattle.at_script.specs.Shapes.{Said, words_say}
 use Rattle.at_script.specs.Texts.{number_in}
 use Rattle.at_script.specs.State.{State}
 use Rattle.at_script.specs.Causes.{are_too_many, begins_thread}
-use Rattle.at_script.specs.Script.{budget_of, ended, ending, led_by, with_said, after_said}
+use Rattle.at_script.specs.Script.{budget_of, ended, ending, led_by, after_said}
 use Rattle.at_script.specs.Reading.{unless}
 use Rattle.at_script.specs.Taking.{wrong, mapped, begun_at, function_begun}
-use Rattle.at_script.specs.LineReading.{then_counted, counted, keyword_read, number_word, budget_found, budget_checked, function_named, if_alone}
-use Rattle.at_script.proofs.Begun.{IsBegun, at_most}
+use Rattle.at_script.specs.LineReading.{then_counted, keyword_read, number_word, budget_found, function_named}
 use Rattle.at_script.proofs.Extended.{Extends}
 use Rattle.at_script.proofs.Takes.{few}
 use Rattle.at_script.proofs.TakenClasses.{number_or_next}

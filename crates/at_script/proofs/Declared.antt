@@ -1,8 +1,7 @@
 -- What the lines of a text declare, line by line and together.
-use Rattle.std.proofs.Common.{◌≡◌, ◌∙◌, ap, refl, sym, ℕ, List, [], ◌∷◌, ◌++◌, length, Bool, true, false, cond, Option, Some, None, is_some, codes}
+use Rattle.std.proofs.Common.{◌≡◌, ◌∙◌, ap, refl, ℕ, List, [], ◌∷◌, Option, Some, None, codes}
 use Rattle.std.specs.Option.{option_to_list}
 use Rattle.std.specs.List.{cons_option}
-use Rattle.at_name.specs.Texts.{place_of}
 use Rattle.at_script.specs.Lines.{words_in}
 use Rattle.at_script.specs.Texts.{Texts, with_text, with_texts, declared_by, declared_in, texts_of}
 use Rattle.at_script.specs.Reading.{with_declared, with_all_declared, no_texts}

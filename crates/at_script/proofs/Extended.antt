@@ -1,6 +1,6 @@
 -- Texts with those of a line, one after another.
-use Rattle.std.proofs.Common.{◌≡◌, ◌∙◌, ap, refl, sym, subst, ℕ, ◌+◌, ◌<◌, ◌≤◌, arith, List, [], ◌∷◌, ◌++◌, length, Bool, true, false, cond, ltb, Option, Some, None, is_some, bytes_eq, Result, Ok, Err, inl, inr, length-append}
-use Rattle.std.specs.List.{flat_map, position_or_len}
+use Rattle.std.proofs.Common.{◌≡◌, ◌∙◌, ap, refl, sym, ℕ, ◌+◌, ◌<◌, ◌≤◌, arith, List, [], ◌∷◌, ◌++◌, length, true, false, cond, ltb, Option, Some, None, is_some, bytes_eq, Ok, Err, inl, inr, length-append}
+use Rattle.std.specs.List.{flat_map}
 use Rattle.std.proofs.lemmas.Bool.{cases_Bool, lt-ltb, le-ltb, ltb-true, ltb-false}
 use Rattle.std.proofs.lemmas.List.Concat.{flat_map-append}
 use Rattle.std.proofs.lemmas.Option.{cond_some}
@@ -8,13 +8,12 @@ use Rattle.std.proofs.lemmas.Slice.Eq.{bytes_eq-Decides}
 use Rattle.at_value.specs.Widths as widths
 use Rattle.at_name.specs.Texts.{place_of}
 use Rattle.at_script.specs.declared.fault.Cause.TheVariants as causes
-use Rattle.at_script.specs.declared.fault.LineFault.{LineFault}
 use Rattle.at_script.specs.declared.fault.LineFault.TheVariants.{Wrong}
 use Rattle.at_script.specs.Limits as limits
 use Rattle.at_script.specs.Texts.{Texts, with_text, with_texts, number_in}
 use Rattle.at_script.specs.Uses.{Use, names_in, variables_in}
 use Rattle.at_script.specs.Reading.{is_below, found_or_added, numbered_in}
-use Rattle.at_script.proofs.Numbered.{number_stays, place_of-other, place_of-added, place_of-push, apart, place_within}
+use Rattle.at_script.proofs.Numbered.{number_stays, place_of-other, place_of-added, place_of-push, apart}
 
 -- a text that was found is known by its number
 pub found_number : (w : List ℕ) (texts : List (List ℕ)) (n : ℕ) → place_of w texts ≡ Some n → (number_in texts w < length texts) × (number_in texts w ≡ n)

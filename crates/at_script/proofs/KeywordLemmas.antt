@@ -1,8 +1,8 @@
 -- A word is a keyword of its own length.
-use Rattle.std.proofs.Common.{◌≡◌, ◌∙◌, ap, refl, sym, ℕ, ◌==◌, ◌<◌, arith, List, [], ◌∷◌, length, Bool, true, false, cond, Option, Some, None, bytes_eq, inl, inr}
+use Rattle.std.proofs.Common.{◌≡◌, ◌∙◌, ap, refl, sym, ℕ, ◌==◌, List, [], ◌∷◌, length, Bool, false, cond, Some, None, bytes_eq, inl, inr}
 use Rattle.std.specs.Option.{option_map}
 use Rattle.std.specs.List.{find, filter}
-use Rattle.std.proofs.lemmas.Bool.{cases_Bool, false_from_ne_true, eqb-true, eqb-false}
+use Rattle.std.proofs.lemmas.Bool.{cases_Bool, false_from_ne_true, eqb-false}
 use Rattle.std.proofs.lemmas.Slice.Eq.{bytes_eq-Decides}
 use Rattle.at_script.specs.declared.keyword.Keyword.{Keyword}
 use Rattle.at_script.specs.Keywords.{named, of_length, keyword_of, all_keywords}

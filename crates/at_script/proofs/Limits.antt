@@ -1,7 +1,7 @@
 -- A line without offence keeps the counts within their limits.
-use Rattle.std.proofs.Common.{◌≡◌, ◌∙◌, ap, refl, sym, subst, ℕ, ◌+◌, ◌<◌, ◌≤◌, arith, List, [], ◌∷◌, ◌++◌, length, Bool, true, false, cond, not, ◌||◌, ltb, leb, Option, Some, None, length-append}
+use Rattle.std.proofs.Common.{◌≡◌, refl, ℕ, ◌+◌, ◌≤◌, List, [], ◌∷◌, ◌++◌, length, Bool, true, false, cond, ◌||◌, ltb, Option, Some, None}
 use Rattle.std.specs.List.{find}
-use Rattle.std.proofs.lemmas.Bool.{ltb-false, leb-false}
+use Rattle.std.proofs.lemmas.Bool.{ltb-false}
 use Rattle.at_value.specs.Widths as widths
 use Rattle.at_script.specs.declared.fault.Cause as cause
 use Rattle.at_script.specs.declared.fault.Cause.TheVariants as causes
@@ -13,7 +13,7 @@ use Rattle.at_script.specs.Limits as limits
 use Rattle.at_script.specs.Shapes as shapes
 use Rattle.at_script.specs.Shapes.{Said}
 use Rattle.at_script.specs.Texts.{Texts}
-use Rattle.at_script.specs.Uses.{uses_of, with_uses}
+use Rattle.at_script.specs.Uses.{with_uses}
 use Rattle.at_script.specs.State.{State}
 use Rattle.at_script.specs.Causes.{cause_of, uses_in, uses_said, said_in, read_words, are_too_many, has_limit, has_cause}
 use Rattle.at_script.specs.Script.{after, after_said, led_by, with_said, ended, ending, past_header}

@@ -1,5 +1,5 @@
 -- What the reader makes of a line is what the definitions say of it.
-use Rattle.std.proofs.Common.{◌≡◌, ◌∙◌, ap, refl, sym, subst, ℕ, suc, zero, ◌+◌, ◌<◌, ◌≤◌, arith, List, [], ◌∷◌, length, codes, Option, Some, None, is_some, is_none, Bool, true, false, cond, not, ◌||◌, ◌&&◌, leb, Result, Ok, Err}
+use Rattle.std.proofs.Common.{◌≡◌, ◌∙◌, ap, refl, sym, subst, ℕ, suc, ◌+◌, ◌<◌, ◌≤◌, arith, List, [], ◌∷◌, length, codes, Option, Some, None, is_some, is_none, Bool, true, false, cond, not, ◌||◌, ◌&&◌, leb, Result, Ok, Err}
 use Rattle.std.specs.List.{fold, cons_option, list_all, list_any}
 use Rattle.std.specs.Result.{IsErrAnd, IfErr}
 use Rattle.std.specs.Option.{option_map}
@@ -7,7 +7,6 @@ use Rattle.at_value.specs.Widths as widths
 use Rattle.at_script.specs.declared.fault.Cause as cause
 use Rattle.at_script.specs.declared.fault.Cause.TheVariants as causes
 use Rattle.at_script.specs.declared.fault.LineFault.{LineFault}
-use Rattle.at_script.specs.declared.fault.LineFault.TheVariants.{Wrong, NoMemory}
 use Rattle.at_script.specs.declared.fault.ReadFault.{ReadFault}
 use Rattle.at_script.specs.declared.fault.ReadFault.TheVariants as read_faults
 use Rattle.at_script.specs.declared.keyword.Keyword as keyword
@@ -26,7 +25,7 @@ use Rattle.at_script.specs.Taking.{wrong}
 use Rattle.at_script.specs.Literals.{or}
 use Rattle.at_script.specs.Stages.{may_stand, end_cause}
 use Rattle.at_script.specs.State.{State, before_all, parts_of}
-use Rattle.at_script.specs.Causes.{cause_of, is_first, may_not_stand, has_word, keyword_in, says_after, said_in, uses_said, are_words, begins_thread, is_out_of_range, is_misnamed, is_no_class, is_no_function, is_one_too_many, are_too_many}
+use Rattle.at_script.specs.Causes.{cause_of, may_not_stand, has_word, keyword_in, says_after, said_in, uses_said, are_words, begins_thread, is_out_of_range, is_misnamed, is_no_class, is_no_function, is_one_too_many, are_too_many}
 use Rattle.at_script.specs.Texts.{Texts, declared_by, declared_in, number_in}
 use Rattle.at_script.proofs.Numbered.{EachBelow, few_of}
 use Rattle.at_script.proofs.Begun.{IsBegun, at_most, begun_after}
@@ -37,7 +36,7 @@ use Rattle.at_script.proofs.StatementLines.{answered, is_over, cause_said}
 use Rattle.at_script.proofs.BlockLines.{keyword_line, limited}
 use Rattle.at_script.proofs.Extended.{Extends, extends_itself}
 use Rattle.at_script.proofs.Limits.{no_limit, texts_within, after_texts, few_texts}
-use Rattle.at_script.specs.Script.{after, after_said, first_from, first_offence, script_in, script_of, IsScript, if_no_offence}
+use Rattle.at_script.specs.Script.{after, after_said, first_from, first_offence, script_in, IsScript, if_no_offence}
 use Rattle.at_script.specs.LineReading.{line_read, words_read, keyword_read, keyword_found, then_counted, lines_read, end_read_at, then_lines, left_read, IfToldRead}
 
 -- no more names and variables than there may be, and no more functions were begun

@@ -1,5 +1,5 @@
 -- Where a byte first stands, and the lines of a text.
-use Rattle.std.proofs.Common.{◌≡◌, ◌∙◌, ap, refl, sym, ℕ, suc, ◌==◌, ◌+◌, ◌<◌, ◌≤◌, List, [], ◌∷◌, length, take, drop, get_or, arith, Bool, true, false, cond, not, ltb, Option, Some, None}
+use Rattle.std.proofs.Common.{◌≡◌, ◌∙◌, ap, refl, sym, ℕ, suc, ◌==◌, ◌+◌, ◌<◌, ◌≤◌, List, [], ◌∷◌, length, take, drop, arith, Bool, true, false, cond, not, ltb, Option, Some, None}
 use Rattle.std.specs.List.{position, position_or_len, prefix_len, onto_first}
 use Rattle.std.proofs.lemmas.Bool.{lt-ltb, le-ltb, ltb-true, false_from_ne_true}
 use Rattle.std.proofs.lemmas.Option.{cond_some}

@@ -1,5 +1,5 @@
 -- Words that are the decimal text of a number.
-use Rattle.std.proofs.Common.{◌≡◌, ◌∙◌, ap, refl, sym, subst, ℕ, ◌==◌, ◌<◌, ◌≤◌, ◌^◌, List, [], ◌∷◌, length, drop, arith, Bool, true, false, cond, not, ◌&&◌, ◌||◌, bytes_eq, codes, ℤ, pos, negsuc, lit<, inl, inr, Option, Some, None, Result, Ok, Err, Bor}
+use Rattle.std.proofs.Common.{◌≡◌, ◌∙◌, ap, refl, sym, subst, ℕ, ◌==◌, ◌<◌, ◌^◌, List, [], ◌∷◌, arith, true, false, cond, not, ◌&&◌, ◌||◌, bytes_eq, codes, ℤ, pos, negsuc, lit<, inl, inr, Option, Some, None, Result, Ok, Err, Bor}
 use Rattle.std.specs.List.{list_all}
 use Rattle.std.specs.Char.{digit_value}
 use Rattle.std.specs.Str.{IsAscii, IsUtf8}

@@ -1,8 +1,7 @@
 -- What is found of several operands: the value of each, or the first cause that any of them has.
-use Rattle.std.proofs.Common.{◌≡◌, ◌∙◌, ap, refl, Bool, true, false, cond, ◌||◌, List, [], ◌∷◌, Option, Some, None, Result, Ok, Err}
+use Rattle.std.proofs.Common.{◌≡◌, refl, Bool, true, false, cond, ◌||◌, Option, Some, None}
 use Rattle.at_script.specs.declared.fault.Cause as cause
 use Rattle.at_script.specs.declared.fault.Cause.TheVariants as causes
-use Rattle.at_script.specs.declared.fault.LineFault.{LineFault}
 use Rattle.at_script.specs.Reading.{unless, both_of}
 use Rattle.at_script.specs.Taking.{mapped}
 

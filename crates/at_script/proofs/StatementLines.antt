@@ -1,8 +1,7 @@
 -- What the reader makes of a line with a statement.
-use Rattle.std.proofs.Common.{◌≡◌, ◌∙◌, ap, refl, sym, subst, ℕ, ◌+◌, List, [], ◌∷◌, ◌++◌, length, Bool, true, false, cond, ◌||◌, ltb, Option, Some, None, is_none, Result, Ok, Err, inl, inr}
+use Rattle.std.proofs.Common.{◌≡◌, ◌∙◌, ap, refl, sym, ℕ, ◌+◌, [], ◌∷◌, ◌++◌, length, Bool, true, false, cond, ◌||◌, ltb, Option, Some, None, is_none, Result, Ok, Err}
 use Rattle.std.specs.Option.{option_map, option_to_list}
 use Rattle.std.specs.List.{list_any}
-use Rattle.std.proofs.lemmas.Bool.{cases_Bool}
 use Rattle.at_script.specs.declared.fault.Cause as cause
 use Rattle.at_script.specs.declared.fault.Cause.TheVariants as causes
 use Rattle.at_script.specs.declared.fault.LineFault.{LineFault}
@@ -22,8 +21,8 @@ use Rattle.at_script.specs.Taking.{Taken, mapped}
 use Rattle.at_script.specs.Stating.{formed}
 use Rattle.at_script.specs.LineReading.{stage_after, state_with, then_counted, counted}
 use Rattle.at_script.proofs.Outcomes.{chosen, mapped_unless}
-use Rattle.at_script.proofs.Extended.{Extends, continues_itself}
-use Rattle.at_script.proofs.Takes.{IsTold, IsClean, IsToldClean, any_number, any_name, any_class, any_func, is_limited}
+use Rattle.at_script.proofs.Extended.{continues_itself}
+use Rattle.at_script.proofs.Takes.{IsTold, IsToldClean, any_number, any_name, any_class, any_func}
 
 -- what a line comes to: its first cause, or the state after it
 abbrev pub answered : Option cause.Cause → State → Result State LineFault

@@ -1,5 +1,5 @@
 -- The statements, each with the parts that are read of it.
-use Rattle.std.proofs.Common.{◌≡◌, ap, refl, sym, ℕ, List, [], ◌∷◌, ◌++◌, ◌+◌, map, length, Bool, true, false, Option, Some, None, Ok}
+use Rattle.std.proofs.Common.{◌≡◌, ap, refl, sym, ℕ, List, [], ◌∷◌, ◌++◌, ◌+◌, map, length, Bool, true, false, Option, None, Ok}
 use Rattle.std.specs.Option.{option_map, option_to_list}
 use Rattle.at_name.specs.Texts.{place_of}
 use Rattle.at_script.specs.declared.keyword.Keyword as keyword
@@ -18,8 +18,8 @@ use Rattle.at_script.specs.Texts.{Texts}
 use Rattle.at_script.specs.Uses as uses
 use Rattle.at_script.specs.Uses.{Use, uses_of, value_uses, given_uses}
 use Rattle.at_script.specs.State.{State}
-use Rattle.at_script.specs.Statements.{or_object, class_at, name_at, variable_at, target_at, operand_at, statement_of}
-use Rattle.at_script.specs.Script.{led_by, in_section, after_said}
+use Rattle.at_script.specs.Statements.{or_object, class_at, name_at, variable_at, target_at, operand_at}
+use Rattle.at_script.specs.Script.{in_section, after_said}
 use Rattle.at_script.specs.Taking.{Taken, mapped, made_of, both_taken, class_taken, subject_taken, bases_taken, bound_taken, owner_taken, second_owner_taken, attribute_taken, class_attribute_taken, value_taken, given_taken}
 use Rattle.at_script.specs.Stating as stating
 use Rattle.at_script.specs.LineReading.{stage_after, section_after, statement_read, then_counted}

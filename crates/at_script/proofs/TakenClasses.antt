@@ -1,24 +1,23 @@
 -- Classes and functions, as they are read.
-use Rattle.std.proofs.Common.{◌≡◌, ◌∙◌, ap, refl, sym, ℕ, min, ◌+◌, ◌<◌, ◌≤◌, arith, List, [], ◌∷◌, length, Bool, true, false, cond, not, ◌||◌, ◌&&◌, leb, Option, Some, None, is_some, is_none, unwrap_or, Result, Ok, Err, bytes_eq, inl, inr}
+use Rattle.std.proofs.Common.{◌≡◌, ◌∙◌, ap, refl, sym, ℕ, arith, List, [], ◌∷◌, length, Bool, true, false, cond, not, ◌||◌, ◌&&◌, leb, Option, Some, None, is_some, is_none, unwrap_or, Ok, Err, bytes_eq, inl, inr}
 use Rattle.std.specs.Option.{option_map}
 use Rattle.std.proofs.lemmas.Bool.{cases_Bool, le-leb, lt-leb, leb-true, leb-false}
 use Rattle.at_value.specs.Widths as widths
 use Rattle.at_name.specs.Texts.{place_of}
 use Rattle.at_script.specs.declared.fault.Cause.TheVariants as causes
-use Rattle.at_script.specs.declared.fault.LineFault.{LineFault}
 use Rattle.at_script.specs.declared.fault.LineFault.TheVariants.{Wrong}
 use Rattle.at_script.specs.Meanings.{class_number, func_number}
 use Rattle.at_script.specs.Words.{is_free, is_object}
-use Rattle.at_script.specs.Texts.{Texts, meaning_of, meaning_by, number_in}
+use Rattle.at_script.specs.Texts.{Texts, meaning_by, number_in}
 use Rattle.at_script.specs.Uses as uses
 use Rattle.at_script.specs.Causes.{means_function, means_class, means_variable}
 use Rattle.at_script.specs.Statements.{class_numbered, func_numbered, class_at, func_at}
 use Rattle.at_script.specs.Reading.{unless, is_below}
-use Rattle.at_script.specs.Taking.{Taken, wrong, class_found, class_taken, subject_numbered, subject_taken, function_found, function_taken}
+use Rattle.at_script.specs.Taking.{wrong, class_found, class_taken, subject_numbered, subject_taken, function_found, function_taken}
 use Rattle.at_script.proofs.Cuts.{none_at}
 use Rattle.at_script.proofs.Numbered.{place_within}
 use Rattle.at_script.proofs.Outcomes.{chosen}
-use Rattle.at_script.proofs.Extended.{Extends, found_number}
+use Rattle.at_script.proofs.Extended.{found_number}
 use Rattle.at_script.proofs.Takes.{Takes, takes_over, told_alone}
 
 -- a number that is cut twice

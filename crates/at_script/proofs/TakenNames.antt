@@ -1,5 +1,5 @@
 -- Variables, names of attributes, and texts, as they are read.
-use Rattle.std.proofs.Common.{◌≡◌, ◌∙◌, ap, refl, sym, subst, ℕ, ◌+◌, ◌<◌, ◌≤◌, arith, List, [], ◌∷◌, length, Bool, true, false, cond, not, ◌||◌, ltb, Option, Some, None, is_some, Result, Ok, Err, inl, inr}
+use Rattle.std.proofs.Common.{◌≡◌, ◌∙◌, ap, refl, sym, subst, ℕ, List, [], ◌∷◌, length, Bool, true, false, cond, not, ◌||◌, ltb, Option, Some, None, is_some, Result, Ok, Err, inl, inr}
 use Rattle.std.specs.Option.{option_map}
 use Rattle.std.specs.List.{list_any}
 use Rattle.std.proofs.lemmas.Bool.{cases_Bool, le-ltb, ltb-false}
@@ -13,16 +13,16 @@ use Rattle.at_script.specs.declared.stmt.Operand.TheVariants as operands
 use Rattle.at_script.specs.Limits as limits
 use Rattle.at_script.specs.Meanings.{class_number, func_number}
 use Rattle.at_script.specs.Words.{is_free, is_attribute_name}
-use Rattle.at_script.specs.Texts.{Texts, with_text, meaning_of, meaning_by, number_in}
+use Rattle.at_script.specs.Texts.{Texts, with_text, meaning_by, number_in}
 use Rattle.at_script.specs.Uses as uses
 use Rattle.at_script.specs.Uses.{Use}
 use Rattle.at_script.specs.Causes.{means_variable, is_one_too_many, are_too_many}
 use Rattle.at_script.specs.Statements.{variable_at, name_at}
 use Rattle.at_script.specs.Reading.{unless, numbered_in}
-use Rattle.at_script.specs.Taking.{Taken, wrong, mapped, made_of, variable_numbered, name_numbered, bound_taken, attribute_name_taken, text_taken}
+use Rattle.at_script.specs.Taking.{wrong, mapped, made_of, variable_numbered, name_numbered, bound_taken, attribute_name_taken, text_taken}
 use Rattle.at_script.proofs.Outcomes.{chosen}
 use Rattle.at_script.proofs.Extended.{added, Continues, Extends, extends_with_name, extends_with_var, numbered_is, number_there}
-use Rattle.at_script.proofs.Takes.{Takes, takes_over, IsTold, IsClean, any_number, any_name, any_class, any_func, told_misnamed, or-true}
+use Rattle.at_script.proofs.Takes.{Takes, takes_over, IsTold, any_number, any_name, any_class, any_func, told_misnamed, or-true}
 
 module _ (first : Texts) (begun : ℕ) where
   -- nothing is wrong with a part but that there may be too many

@@ -1,5 +1,5 @@
 -- What statements work on, and values by their names, as they are read.
-use Rattle.std.proofs.Common.{◌≡◌, ◌∙◌, ap, refl, sym, subst, ℕ, List, [], ◌∷◌, ◌++◌, codes, Bool, true, false, cond, not, ◌||◌, ◌&&◌, Option, Some, None, is_some, bytes_eq, Result, Ok, Err, inl, inr}
+use Rattle.std.proofs.Common.{◌≡◌, ◌∙◌, ap, refl, sym, subst, ℕ, List, [], ◌∷◌, ◌++◌, codes, Bool, true, false, cond, not, ◌||◌, ◌&&◌, Option, Some, None, is_some, bytes_eq, Ok, inl, inr}
 use Rattle.std.specs.Option.{option_map}
 use Rattle.std.proofs.lemmas.Bool.{cases_Bool}
 use Rattle.std.proofs.lemmas.Slice.Eq.{bytes_eq-Decides}
@@ -20,8 +20,8 @@ use Rattle.at_script.specs.Uses.{if_variable}
 use Rattle.at_script.specs.Causes.{means_function}
 use Rattle.at_script.specs.Statements.{class_numbered, func_numbered, target_at, targeted_by, named_at, named_by}
 use Rattle.at_script.specs.Views.{register_in}
-use Rattle.at_script.specs.Taking.{Taken, wrong, register_owner, named_owner, class_owner, owner_taken, register_value, named_value, numbered_value, class_value}
-use Rattle.at_script.proofs.Extended.{added, Continues, Extends}
+use Rattle.at_script.specs.Taking.{wrong, register_owner, named_owner, class_owner, owner_taken, register_value, named_value, numbered_value, class_value}
+use Rattle.at_script.proofs.Extended.{Extends}
 use Rattle.at_script.proofs.Takes.{Takes, takes_over, IsTold, any_name, told_alone, told_misnamed}
 use Rattle.at_script.proofs.TakenClasses.{class_again, func_again}
 use Rattle.at_script.proofs.TakenNames.{told_var}

@@ -1,8 +1,6 @@
 -- Values, bases and pairs of owners, as they are read.
-use Rattle.std.proofs.Common.{◌≡◌, ◌∙◌, ap, refl, sym, subst, ℕ, ℤ, List, [], ◌∷◌, ◌++◌, map, length, append_assoc, append-nil, Bool, true, false, cond, not, ◌||◌, Option, Some, None, Result, Ok, Err, inl, inr}
+use Rattle.std.proofs.Common.{◌≡◌, refl, sym, subst, ℕ, ℤ, List, [], ◌∷◌, ◌++◌, map, length, append_assoc, append-nil, Bool, true, false, cond, not, ◌||◌, Option, Some, None, Result, Ok}
 use Rattle.std.specs.Option.{option_map, option_to_list}
-use Rattle.std.proofs.lemmas.Bool.{cases_Bool}
-use Rattle.at_value.specs.declared.value.Value as value
 use Rattle.at_value.specs.declared.value.Value.TheVariants as values
 use Rattle.at_name.specs.Texts.{place_of}
 use Rattle.at_script.specs.declared.fault.Cause.TheVariants as causes

@@ -1,5 +1,5 @@
 -- What is read of a part of a line, in the texts before the line and some of the line's own.
-use Rattle.std.proofs.Common.{◌≡◌, ◌∙◌, ap, refl, sym, subst, ℕ, ◌+◌, ◌<◌, ◌≤◌, arith, List, [], ◌∷◌, ◌++◌, length, append_assoc, Bool, true, false, cond, ◌||◌, ltb, Option, Some, None, Result, Ok, Err, inl, inr}
+use Rattle.std.proofs.Common.{◌≡◌, ◌∙◌, ap, refl, sym, subst, ℕ, arith, List, ◌++◌, length, Bool, true, false, ◌||◌, ltb, Result, inl, inr}
 use Rattle.std.specs.List.{list_any, flat_map}
 use Rattle.std.proofs.lemmas.Bool.{cases_Bool, lt-ltb, le-ltb, ltb-true}
 use Rattle.std.proofs.lemmas.List.Folds.{list_any-append}

@@ -1,6 +1,6 @@
 -- What may be wrong with a line: each cause is a test of the line, in what the text before it says and what the whole text
 -- declares.
-use Rattle.std.specs.Prelude.{ℕ, ◌+◌, nat_lt, nat_le, ℤ, Bool, true, false, not, ◌&&◌, ◌||◌, List, [], ◌∷◌, length, Option, Some, None, is_some, is_none, if◌then◌else◌, codes, bytes_eq}
+use Rattle.std.specs.Prelude.{ℕ, ◌+◌, nat_lt, nat_le, Bool, true, false, not, ◌&&◌, ◌||◌, List, [], ◌∷◌, length, Option, Some, None, is_some, is_none, if◌then◌else◌, codes, bytes_eq}
 use Rattle.std.specs.List.{list_all, list_any, find}
 use Rattle.at_value.specs.Widths as widths
 use Rattle.at_name.specs.Texts.{place_of}
@@ -15,7 +15,6 @@ use Rattle.at_script.specs.Lines.{is_allowed, words_in, is_skipped}
 use Rattle.at_script.specs.Keywords.{keyword_of}
 use Rattle.at_script.specs.Pieces.{two_parts}
 use Rattle.at_script.specs.Words.{is_free, is_short, is_register, is_object, is_attribute_name, is_in_range, is_budget}
-use Rattle.at_script.specs.Literals.{◌>>=◌}
 use Rattle.at_script.specs.Shapes.{Said, words_say}
 use Rattle.at_script.specs.Stages.{may_stand}
 use Rattle.at_script.specs.Texts as texts

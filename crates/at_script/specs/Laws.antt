@@ -25,16 +25,16 @@ IsCleanBefore text n = (m : ℕ) → m < n → cause_at text m ≡ None
 abbrev pub ScriptsHaveNoOffence : Type 0
 ScriptsHaveNoOffence = (text : List ℕ) → is_some (script_of text) ≡ is_none (first_offence text)
 
--- The first offence of a text is that of the line with this number, or what is missing behind the last line; no line before
--- has one.
+-- The first offence of a text is that of the line with this number, or what is missing behind the last line; no line
+-- before has one.
 abbrev pub OffenceIsTheFirst : Type 0
 OffenceIsTheFirst =
     (text : List ℕ) (line : ℕ) (c : cause.Cause)
     → (first_offence text ≡ Some (line, c))
     ↔ ((n : ℕ) × (line ≡ suc n) × (n ≤ length (lines_of text)) × (cause_at text n ≡ Some c) × IsCleanBefore text n)
 
--- Texts that declare the same, and that are alike up to the first line with an offence, have the same first offence: what
--- stands behind it changes nothing but by what it declares.
+-- Texts that declare the same, and that are alike up to the first line with an offence, have the same first offence:
+-- what stands behind it changes nothing but by what it declares.
 abbrev pub NothingBehindCounts : Type 0
 NothingBehindCounts =
     (text other : List ℕ) (line : ℕ) (c : cause.Cause)

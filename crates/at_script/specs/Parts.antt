@@ -1,5 +1,5 @@
 -- What a script is.
-use Rattle.std.specs.Prelude.{ℕ, List, Option, Some, None, slice_get}
+use Rattle.std.specs.Prelude.{ℕ, List, Option, Some, slice_get}
 use Rattle.at_script.specs.declared.stmt.Stmt.{Stmt}
 use Rattle.at_script.specs.declared.stmt.Block.{Block}
 use Rattle.at_script.specs.declared.stmt.Block.TheVariants.{Main, Thread, Finally, Func}

@@ -1,9 +1,7 @@
 -- private: about the reader's own types; no public clause cites it. What the reader finds of each operand of a line, in
 -- the texts so far: its value, or the first thing that is wrong with it.
-use Rattle.std.specs.Prelude.{ℕ, ◌≡◌, nat_le, nat_lt, ◌||◌, Bool, true, false, List, [], ◌∷◌, map, length, take, Option, Some, None, Result, Ok, Err, is_some, is_none, if◌then◌else◌, ◌++◌, codes}
-use Rattle.std.specs.Option.{option_map, option_to_list}
-use Rattle.std.specs.List.{find}
-use Rattle.std.specs.Borrow.{Bor}
+use Rattle.std.specs.Prelude.{ℕ, nat_le, nat_lt, Bool, false, List, [], ◌∷◌, map, length, Option, Some, None, Result, Ok, Err, if◌then◌else◌, ◌++◌, codes}
+use Rattle.std.specs.Option.{option_to_list}
 use Rattle.at_script.specs.declared.fault.Cause as cause
 use Rattle.at_script.specs.declared.fault.Cause.TheVariants as causes
 use Rattle.at_script.specs.declared.fault.ReadFault.{ReadFault}
@@ -16,8 +14,6 @@ use Rattle.at_script.specs.Meanings.{now_of, meaning_among}
 use Rattle.at_name.specs.Texts.{place_of, special_texts}
 use Rattle.at_script.specs.Lines.{words_in}
 use Rattle.at_script.specs.Texts.{Texts, with_texts, declared_by}
-use Rattle.at_script.specs.Uses.{Use}
-use Rattle.at_script.specs.Causes.{is_out_of_range, is_misnamed, is_no_class, is_no_function, is_one_too_many, are_too_many}
 
 -- What the tables have
 
@@ -59,28 +55,6 @@ found_or_added most text texts None =
 -- the number of a text, and the texts with it, where there is room for it
 abbrev pub numbered_in : ℕ → List (List ℕ) → List ℕ → Result ℕ LineFault × List (List ℕ)
 numbered_in most texts text = found_or_added most text texts (place_of text texts)
-
--- What is wrong with a use
-
-abbrev pub use_has : ℕ → Texts → Use → cause.Cause → Bool
-use_has begun t used causes.Byte = false
-use_has begun t used causes.Header = false
-use_has begun t used causes.Word = false
-use_has begun t used causes.Place = false
-use_has begun t used causes.Form = false
-use_has begun t used causes.Number = is_out_of_range used
-use_has begun t used causes.Name = is_misnamed begun t used
-use_has begun t used causes.Class = is_no_class t used
-use_has begun t used causes.Func = is_no_function t used
-use_has begun t used causes.Limit = is_one_too_many t used
-use_has begun t used causes.End = false
-
-abbrev pub use_causes : List cause.Cause
-use_causes = causes.Number ∷ causes.Name ∷ causes.Class ∷ causes.Func ∷ causes.Limit ∷ []
-
--- what is first wrong with a use, at the texts before the line and so many functions begun
-abbrev pub use_cause : ℕ → Texts → Use → Option cause.Cause
-use_cause begun t used = find (use_has begun t used) use_causes
 
 -- a number there is, and below this one
 abbrev pub is_below : ℕ → Option ℕ → Bool

@@ -1,5 +1,5 @@
 -- Which bytes are the text of a script, of which one, and what is first wrong with other bytes.
-use Rattle.std.specs.Prelude.{ℕ, zero, suc, ◌≡◌, ◌+◌, Bool, true, false, List, [], ◌∷◌, ◌++◌, length, take, Option, Some, None, ℤ, pos, negsuc}
+use Rattle.std.specs.Prelude.{ℕ, suc, ◌≡◌, ◌+◌, Bool, true, false, List, [], ◌∷◌, ◌++◌, length, take, Option, Some, None, ℤ, pos, negsuc}
 use Rattle.std.specs.Option.{option_map, option_to_list}
 use Rattle.std.specs.List.{fold}
 use Rattle.at_script.specs.declared.stage.BlockKind as block_kind
@@ -11,10 +11,10 @@ use Rattle.at_script.specs.Lines.{lines_of}
 use Rattle.at_script.specs.Literals.{or}
 use Rattle.at_script.specs.Shapes as shapes
 use Rattle.at_script.specs.Shapes.{Said}
-use Rattle.at_script.specs.Stages.{stage_behind, end_cause}
+use Rattle.at_script.specs.Stages.{end_cause}
 use Rattle.at_script.specs.Uses.{uses_of, with_uses}
 use Rattle.at_script.specs.State.{State, before_all, parts_of}
-use Rattle.at_script.specs.Causes.{is_first, read_words, said_in, cause_of}
+use Rattle.at_script.specs.Causes.{read_words, said_in, cause_of}
 use Rattle.at_script.specs.Statements.{statement_of}
 use Rattle.at_script.specs.Parts.{ScriptParts}
 

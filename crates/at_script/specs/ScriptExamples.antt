@@ -1,7 +1,7 @@
 -- Texts, and what is first wrong with each.
 use Rattle.std.specs.Prelude.{ℕ, List, [], ◌∷◌, Option, Some, None, codes}
 use Rattle.at_script.specs.declared.fault.Cause.{Cause}
-use Rattle.at_script.specs.declared.fault.Cause.TheVariants.{Byte, Header, Word, Place, Form, Number, Name, Class, Func, Limit, End}
+use Rattle.at_script.specs.declared.fault.Cause.TheVariants.{Byte, Header, Word, Place, Form, Number, Name, Class, Func, End}
 
 abbrev pub offences : List (List ℕ × Option (ℕ × Cause))
 offences =

@@ -78,13 +78,6 @@ may_stand (stages.Within kind section) k = may_stand_in kind section k
 may_stand stages.Ending k = may_follow_main k
 may_stand stages.Closed k = false
 
--- behind a block
-abbrev pub stage_behind : block_kind.BlockKind → stage.Stage
-stage_behind block_kinds.Func = stages.Functions
-stage_behind block_kinds.Main = stages.Ending
-stage_behind block_kinds.Thread = stages.Ending
-stage_behind block_kinds.Finally = stages.Closed
-
 -- What is wrong where the text ends there. A text without a line has no header.
 abbrev pub end_cause : stage.Stage → Option cause.Cause
 end_cause stages.Header = Some causes.Header

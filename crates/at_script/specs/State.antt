@@ -1,5 +1,5 @@
 -- What the text before a line says.
-use Rattle.std.specs.Prelude.{ℕ, ◌+◌, List, [], ◌∷◌, ◌++◌, length, Option, Some, None}
+use Rattle.std.specs.Prelude.{ℕ, List, [], Option, None}
 use Rattle.at_script.specs.declared.stage.Stage as stage
 use Rattle.at_script.specs.declared.stage.Stage.TheVariants as stages
 use Rattle.at_script.specs.declared.stmt.Stmt.{Stmt}

@@ -8,9 +8,7 @@ use Rattle.at_script.specs.declared.stmt.Target as target
 use Rattle.at_script.specs.declared.stmt.Target.TheVariants as targets
 use Rattle.at_script.specs.declared.stmt.Operand as operand
 use Rattle.at_script.specs.declared.stmt.Operand.TheVariants as operands
-use Rattle.at_value.specs.declared.value.Value as value
 use Rattle.at_value.specs.declared.value.Value.TheVariants as values
-use Rattle.at_script.specs.Operands.{operand_of}
 use Rattle.at_script.specs.Literals.{Written, nothing, integer, quoted, named, static, classm, prop}
 use Rattle.at_script.specs.Shapes as shapes
 use Rattle.at_script.specs.Shapes.{Said}

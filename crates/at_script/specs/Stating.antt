@@ -1,6 +1,6 @@
 -- private: about the reader's own types; no public clause cites it. What the reader takes a line for, by its keyword and
 -- the words after it: its statement, or what is first wrong with it.
-use Rattle.std.specs.Prelude.{ℕ, List, [], ◌∷◌, Option, Some, None, Result, Ok, Err}
+use Rattle.std.specs.Prelude.{ℕ, List, [], ◌∷◌, Option, Some, None, Result, Ok}
 use Rattle.at_script.specs.declared.fault.Cause.TheVariants as causes
 use Rattle.at_script.specs.declared.fault.LineFault.{LineFault}
 use Rattle.at_script.specs.declared.keyword.Keyword as keyword

@@ -1,14 +1,13 @@
 -- private: about the reader's own types; no public clause cites it. What the reader takes an operand for, in the texts so
 -- far, of which `earlier` variables are of earlier lines: its value, or what is first wrong with it.
-use Rattle.std.specs.Prelude.{ℕ, ℤ, nat_le, nat_lt, Bool, true, false, not, ◌&&◌, ◌||◌, List, [], ◌∷◌, ◌++◌, length, Option, Some, None, is_some, Result, Ok, Err, if◌then◌else◌, unwrap_or}
-use Rattle.std.specs.Option.{option_map}
+use Rattle.std.specs.Prelude.{ℕ, ℤ, nat_le, nat_lt, not, ◌&&◌, ◌||◌, List, [], ◌∷◌, ◌++◌, length, Option, Some, None, is_some, Result, Ok, Err, if◌then◌else◌, unwrap_or}
 use Rattle.at_value.specs.declared.value.Value as value
 use Rattle.at_value.specs.declared.value.Value.TheVariants as values
 use Rattle.at_value.specs.Widths as widths
 use Rattle.at_script.specs.declared.fault.Cause as cause
 use Rattle.at_script.specs.declared.fault.Cause.TheVariants as causes
 use Rattle.at_script.specs.declared.fault.LineFault.{LineFault}
-use Rattle.at_script.specs.declared.fault.LineFault.TheVariants.{Wrong, NoMemory}
+use Rattle.at_script.specs.declared.fault.LineFault.TheVariants.{Wrong}
 use Rattle.at_script.specs.declared.stmt.Operand as operand
 use Rattle.at_script.specs.declared.stmt.Operand.TheVariants as operands
 use Rattle.at_script.specs.declared.stmt.Target as target

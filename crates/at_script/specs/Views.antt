@@ -1,5 +1,5 @@
 -- private: about the reader's own types; no public clause cites it.
-use Rattle.std.specs.Prelude.{ℕ, List, [], ◌∷◌, Option, Some, None, if◌then◌else◌, codes, bytes_eq}
+use Rattle.std.specs.Prelude.{ℕ, List, [], Option, Some, None, if◌then◌else◌, codes, bytes_eq}
 use Rattle.std.specs.Option.{option_map, option_copied}
 use Rattle.std.specs.List.{slice_split, filter}
 use Rattle.std.specs.Borrow.{Bor}

@@ -6,8 +6,8 @@ pub fn scripts_have_no_offence()
     ensures { ScriptsHaveNoOffence }
 {}
 
-/// The first offence of a text is the first cause of the line that is said, or, behind the last line, that the text ends
-/// too early. No line before that one has an offence.
+/// The first offence of a text is the first cause of the line that is said, or, behind the last line, that the text
+/// ends too early. No line before that one has an offence.
 pub fn offence_is_the_first()
     ensures { OffenceIsTheFirst }
 {}

@@ -29,7 +29,8 @@ fn alone(words: Words<'_>, statement: Stmt) -> Result<Stmt, LineFault>
 
 impl<'a> Tables<'a> {
     fn class_statement(&mut self, words: Words<'a>) -> Result<Stmt, LineFault>
-        ensures told { let found = statement_taken self.old.earlier (texts_in self.old) Keyword.Class (words_left words.entry) in
+        ensures told { let found = statement_taken self.old.earlier (texts_in self.old) Keyword.Class
+            (words_left words.entry) in
             IfTold result ((result ≡ found.0) × (texts_in self.new ≡ found.1)) }
         ensures earlier { self.new.earlier ≡ self.old.earlier }
     {
@@ -46,7 +47,8 @@ impl<'a> Tables<'a> {
     }
 
     fn bases_statement(&mut self, words: Words<'a>) -> Result<Stmt, LineFault>
-        ensures told { let found = statement_taken self.old.earlier (texts_in self.old) Keyword.Bases (words_left words.entry) in
+        ensures told { let found = statement_taken self.old.earlier (texts_in self.old) Keyword.Bases
+            (words_left words.entry) in
             IfTold result ((result ≡ found.0) × (texts_in self.new ≡ found.1)) }
         ensures earlier { self.new.earlier ≡ self.old.earlier }
     {
@@ -59,7 +61,8 @@ impl<'a> Tables<'a> {
     }
 
     fn put(&mut self, words: Words<'a>) -> Result<Stmt, LineFault>
-        ensures told { let found = statement_taken self.old.earlier (texts_in self.old) Keyword.Put (words_left words.entry) in
+        ensures told { let found = statement_taken self.old.earlier (texts_in self.old) Keyword.Put
+            (words_left words.entry) in
             IfTold result ((result ≡ found.0) × (texts_in self.new ≡ found.1)) }
         ensures earlier { self.new.earlier ≡ self.old.earlier }
     {
@@ -72,7 +75,8 @@ impl<'a> Tables<'a> {
     }
 
     fn cut(&mut self, words: Words<'a>) -> Result<Stmt, LineFault>
-        ensures told { let found = statement_taken self.old.earlier (texts_in self.old) Keyword.Cut (words_left words.entry) in
+        ensures told { let found = statement_taken self.old.earlier (texts_in self.old) Keyword.Cut
+            (words_left words.entry) in
             IfTold result ((result ≡ found.0) × (texts_in self.new ≡ found.1)) }
         ensures earlier { self.new.earlier ≡ self.old.earlier }
     {
@@ -102,7 +106,8 @@ impl<'a> Tables<'a> {
         class: &'a str,
         place: (&'a str, &'a str),
     ) -> Result<(Class, (Target, Name)), LineFault>
-        ensures told { let found = both_taken (class_taken self.old.earlier (texts_in self.old) class.now, texts_in self.old)
+        ensures told { let found = both_taken
+            (class_taken self.old.earlier (texts_in self.old) class.now, texts_in self.old)
             (λ u. attribute_taken u (both_now place.entry)) in
             IfTold result ((result ≡ found.0) × (texts_in self.new ≡ found.1)) }
         ensures earlier { self.new.earlier ≡ self.old.earlier }
@@ -112,7 +117,8 @@ impl<'a> Tables<'a> {
     }
 
     fn new_statement(&mut self, words: Words<'a>) -> Result<Stmt, LineFault>
-        ensures told { let found = statement_taken self.old.earlier (texts_in self.old) Keyword.New (words_left words.entry) in
+        ensures told { let found = statement_taken self.old.earlier (texts_in self.old) Keyword.New
+            (words_left words.entry) in
             IfTold result ((result ≡ found.0) × (texts_in self.new ≡ found.1)) }
         ensures earlier { self.new.earlier ≡ self.old.earlier }
     {
@@ -125,7 +131,8 @@ impl<'a> Tables<'a> {
     }
 
     fn set(&mut self, words: Words<'a>) -> Result<Stmt, LineFault>
-        ensures told { let found = statement_taken self.old.earlier (texts_in self.old) Keyword.Set (words_left words.entry) in
+        ensures told { let found = statement_taken self.old.earlier (texts_in self.old) Keyword.Set
+            (words_left words.entry) in
             IfTold result ((result ≡ found.0) × (texts_in self.new ≡ found.1)) }
         ensures earlier { self.new.earlier ≡ self.old.earlier }
     {
@@ -138,7 +145,8 @@ impl<'a> Tables<'a> {
     }
 
     fn del(&mut self, words: Words<'a>) -> Result<Stmt, LineFault>
-        ensures told { let found = statement_taken self.old.earlier (texts_in self.old) Keyword.Del (words_left words.entry) in
+        ensures told { let found = statement_taken self.old.earlier (texts_in self.old) Keyword.Del
+            (words_left words.entry) in
             IfTold result ((result ≡ found.0) × (texts_in self.new ≡ found.1)) }
         ensures earlier { self.new.earlier ≡ self.old.earlier }
     {
@@ -150,7 +158,8 @@ impl<'a> Tables<'a> {
     }
 
     fn get(&mut self, words: Words<'a>) -> Result<Stmt, LineFault>
-        ensures told { let found = statement_taken self.old.earlier (texts_in self.old) Keyword.Get (words_left words.entry) in
+        ensures told { let found = statement_taken self.old.earlier (texts_in self.old) Keyword.Get
+            (words_left words.entry) in
             IfTold result ((result ≡ found.0) × (texts_in self.new ≡ found.1)) }
         ensures earlier { self.new.earlier ≡ self.old.earlier }
     {
@@ -162,7 +171,8 @@ impl<'a> Tables<'a> {
     }
 
     fn turn(&mut self, words: Words<'a>) -> Result<Stmt, LineFault>
-        ensures told { let found = statement_taken self.old.earlier (texts_in self.old) Keyword.Turn (words_left words.entry) in
+        ensures told { let found = statement_taken self.old.earlier (texts_in self.old) Keyword.Turn
+            (words_left words.entry) in
             IfTold result ((result ≡ found.0) × (texts_in self.new ≡ found.1)) }
         ensures earlier { self.new.earlier ≡ self.old.earlier }
     {
@@ -175,7 +185,8 @@ impl<'a> Tables<'a> {
     }
 
     fn share(&mut self, words: Words<'a>) -> Result<Stmt, LineFault>
-        ensures told { let found = statement_taken self.old.earlier (texts_in self.old) Keyword.Share (words_left words.entry) in
+        ensures told { let found = statement_taken self.old.earlier (texts_in self.old) Keyword.Share
+            (words_left words.entry) in
             IfTold result ((result ≡ found.0) × (texts_in self.new ≡ found.1)) }
         ensures earlier { self.new.earlier ≡ self.old.earlier }
     {
@@ -188,7 +199,8 @@ impl<'a> Tables<'a> {
     }
 
     fn super_statement(&mut self, words: Words<'a>) -> Result<Stmt, LineFault>
-        ensures told { let found = statement_taken self.old.earlier (texts_in self.old) Keyword.Super (words_left words.entry) in
+        ensures told { let found = statement_taken self.old.earlier (texts_in self.old) Keyword.Super
+            (words_left words.entry) in
             IfTold result ((result ≡ found.0) × (texts_in self.new ≡ found.1)) }
         ensures earlier { self.new.earlier ≡ self.old.earlier }
     {
@@ -201,7 +213,8 @@ impl<'a> Tables<'a> {
     }
 
     fn special(&mut self, words: Words<'a>) -> Result<Stmt, LineFault>
-        ensures told { let found = statement_taken self.old.earlier (texts_in self.old) Keyword.Special (words_left words.entry) in
+        ensures told { let found = statement_taken self.old.earlier (texts_in self.old) Keyword.Special
+            (words_left words.entry) in
             IfTold result ((result ≡ found.0) × (texts_in self.new ≡ found.1)) }
         ensures earlier { self.new.earlier ≡ self.old.earlier }
     {
@@ -213,7 +226,8 @@ impl<'a> Tables<'a> {
     }
 
     fn classof(&mut self, words: Words<'a>) -> Result<Stmt, LineFault>
-        ensures told { let found = statement_taken self.old.earlier (texts_in self.old) Keyword.ClassOf (words_left words.entry) in
+        ensures told { let found = statement_taken self.old.earlier (texts_in self.old) Keyword.ClassOf
+            (words_left words.entry) in
             IfTold result ((result ≡ found.0) × (texts_in self.new ≡ found.1)) }
         ensures earlier { self.new.earlier ≡ self.old.earlier }
     {
@@ -224,7 +238,8 @@ impl<'a> Tables<'a> {
     }
 
     fn mro(&mut self, words: Words<'a>) -> Result<Stmt, LineFault>
-        ensures told { let found = statement_taken self.old.earlier (texts_in self.old) Keyword.Mro (words_left words.entry) in
+        ensures told { let found = statement_taken self.old.earlier (texts_in self.old) Keyword.Mro
+            (words_left words.entry) in
             IfTold result ((result ≡ found.0) × (texts_in self.new ≡ found.1)) }
         ensures earlier { self.new.earlier ≡ self.old.earlier }
     {
@@ -235,7 +250,8 @@ impl<'a> Tables<'a> {
     }
 
     fn call(&mut self, words: Words<'a>) -> Result<Stmt, LineFault>
-        ensures told { let found = statement_taken self.old.earlier (texts_in self.old) Keyword.Call (words_left words.entry) in
+        ensures told { let found = statement_taken self.old.earlier (texts_in self.old) Keyword.Call
+            (words_left words.entry) in
             IfTold result ((result ≡ found.0) × (texts_in self.new ≡ found.1)) }
         ensures earlier { self.new.earlier ≡ self.old.earlier }
     {
@@ -248,7 +264,8 @@ impl<'a> Tables<'a> {
     }
 
     fn call_super(&mut self, words: Words<'a>) -> Result<Stmt, LineFault>
-        ensures told { let found = statement_taken self.old.earlier (texts_in self.old) Keyword.CallSuper (words_left words.entry) in
+        ensures told { let found = statement_taken self.old.earlier (texts_in self.old) Keyword.CallSuper
+            (words_left words.entry) in
             IfTold result ((result ≡ found.0) × (texts_in self.new ≡ found.1)) }
         ensures earlier { self.new.earlier ≡ self.old.earlier }
     {
@@ -261,7 +278,8 @@ impl<'a> Tables<'a> {
     }
 
     fn let_statement(&mut self, words: Words<'a>) -> Result<Stmt, LineFault>
-        ensures told { let found = statement_taken self.old.earlier (texts_in self.old) Keyword.Let (words_left words.entry) in
+        ensures told { let found = statement_taken self.old.earlier (texts_in self.old) Keyword.Let
+            (words_left words.entry) in
             IfTold result ((result ≡ found.0) × (texts_in self.new ≡ found.1)) }
         ensures earlier { self.new.earlier ≡ self.old.earlier }
     {
@@ -274,7 +292,8 @@ impl<'a> Tables<'a> {
     }
 
     fn return_statement(&mut self, words: Words<'a>) -> Result<Stmt, LineFault>
-        ensures told { let found = statement_taken self.old.earlier (texts_in self.old) Keyword.Return (words_left words.entry) in
+        ensures told { let found = statement_taken self.old.earlier (texts_in self.old) Keyword.Return
+            (words_left words.entry) in
             IfTold result ((result ≡ found.0) × (texts_in self.new ≡ found.1)) }
         ensures earlier { self.new.earlier ≡ self.old.earlier }
     {
@@ -285,7 +304,8 @@ impl<'a> Tables<'a> {
     }
 
     fn begin(&mut self, words: Words<'a>) -> Result<Stmt, LineFault>
-        ensures told { let found = statement_taken self.old.earlier (texts_in self.old) Keyword.Begin (words_left words.entry) in
+        ensures told { let found = statement_taken self.old.earlier (texts_in self.old) Keyword.Begin
+            (words_left words.entry) in
             IfTold result ((result ≡ found.0) × (texts_in self.new ≡ found.1)) }
         ensures earlier { self.new.earlier ≡ self.old.earlier }
     {
@@ -299,7 +319,8 @@ impl<'a> Tables<'a> {
 
     /// The statement of a line with this keyword and these words after it.
     pub fn statement(&mut self, keyword: Keyword, words: Words<'a>) -> Result<Stmt, LineFault>
-        ensures told { let found = statement_taken self.old.earlier (texts_in self.old) keyword (words_left words.entry) in
+        ensures told { let found = statement_taken self.old.earlier (texts_in self.old) keyword
+            (words_left words.entry) in
             IfTold result ((result ≡ found.0) × (texts_in self.new ≡ found.1)) }
         ensures earlier { self.new.earlier ≡ self.old.earlier }
     {

@@ -100,7 +100,8 @@ fn limits(rt: HostRuntime) -> Result<(), Fail> {
 fn script_of_bytes(alloc: Global, bytes: usize, newline: bool) -> Result<String, AllocError> {
     let mut text = String::from_str(alloc, "attrs 1\nmain\nend\n#")?;
     let end = if newline { "\n" } else { "" };
-    while text.len() + end.len() < bytes {
+    let others = if newline { 19 } else { 18 };
+    for _ in others..bytes {
         text.push_str("x")?;
     }
     text.push_str(end)?;

@@ -1,4 +1,4 @@
-use Rattle.std.proofs.Common.{◌∙◌, sym}
+use Rattle.std.proofs.Common.{◌∙◌}
 use Rattle.at_script.proofs.KeywordLemmas.{named_long}
 use Rattle.at_script.proofs.keyword.keyword_of.Goals as goal
 

@@ -1,4 +1,4 @@
-use Rattle.std.proofs.Common.{◌∙◌, sym, ◌≡◌, ◌<◌, length, ℕ, arith, length-take, length-drop}
+use Rattle.std.proofs.Common.{◌∙◌, sym, arith, length-take, length-drop}
 use Rattle.std.proofs.lemmas.List.{take_rest}
 use Rattle.at_script.proofs.LineLemmas.{first_line_at, first_line_whole, found_within}
 use Rattle.at_script.proofs.lines.first_line.Goals as goal

@@ -1,14 +1,13 @@
-use Rattle.std.proofs.Common.{◌≡◌, ◌∙◌, ap, sym, subst, ℕ, ◌≤◌, List, [], length, Ok, Err, Result, Some, arith}
+use Rattle.std.proofs.Common.{◌≡◌, ◌∙◌, ap, sym, subst, [], length, Ok, Some, arith}
 use Rattle.std.proofs.lemmas.List.{length-map}
-use Rattle.at_value.specs.Widths as widths
 use Rattle.at_script.specs.Faults.{IsFaultAt}
 use Rattle.at_script.specs.Lines.{lines_of}
 use Rattle.at_script.specs.Script.{first_offence}
 use Rattle.at_script.specs.Meanings.{now_of}
 use Rattle.at_script.specs.Texts.{Texts}
-use Rattle.at_script.specs.State.{State, before_all, parts_of}
+use Rattle.at_script.specs.State.{State, before_all}
 use Rattle.at_script.specs.LineReading.{state_of, lines_read, left_read, IfToldRead}
-use Rattle.at_script.proofs.LineIs.{accepted, is_script, refused, few_declared, fault_told, fault_of_result}
+use Rattle.at_script.proofs.LineIs.{accepted, is_script, few_declared, fault_told, fault_of_result}
 use Rattle.at_script.proofs.reader.read.Goals as goal
 
 pub script_of-requires-clause-classes : goal.script_of-requires-clause-classes

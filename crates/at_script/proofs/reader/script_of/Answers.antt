@@ -1,6 +1,4 @@
-use Rattle.std.proofs.Common.{◌≡◌, ◌∙◌, ap, length, arith, ◌≤◌}
-use Rattle.at_value.specs.Widths as widths
-use Rattle.at_script.specs.Limits as limits
+use Rattle.std.proofs.Common.{◌≡◌, ◌∙◌, ap, length, arith}
 use Rattle.at_script.proofs.reader.script_of.Goals as goal
 
 pub invariant_of-result : goal.invariant_of-result

@@ -1,4 +1,4 @@
-use Rattle.std.proofs.Common.{◌≡◌, ◌∙◌, sym, subst, ℕ, List}
+use Rattle.std.proofs.Common.{◌∙◌, sym, subst, ℕ, List}
 use Rattle.std.specs.Str.Parse.{ParsesSigned}
 use mir.Syntax.{w32}
 use Rattle.at_script.proofs.Numbers.{parsed, read_as, is_read}

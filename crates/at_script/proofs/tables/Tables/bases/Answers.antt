@@ -1,4 +1,4 @@
-use Rattle.std.proofs.Common.{◌≡◌, ◌∙◌, ap, sym, subst, ℕ, suc, ◌+◌, ◌≤◌, List, ◌∷◌, length, true, Result}
+use Rattle.std.proofs.Common.{◌∙◌, ap, sym, subst, ℕ, suc, ◌+◌, ◌≤◌, List, length, Result}
 use Rattle.std.specs.Prelude.{IfOk}
 use Rattle.std.specs.List.{list_all}
 use Rattle.at_value.specs.Widths as widths

@@ -1,4 +1,4 @@
-use Rattle.std.proofs.Common.{◌≡◌, ◌∙◌, ap, sym, map, length, Some, ℕ, List, ◌∷◌, ◌++◌, [], Option}
+use Rattle.std.proofs.Common.{◌≡◌, ◌∙◌, ap, sym, map, length, Some, ℕ, List, ◌∷◌, ◌++◌, []}
 use Rattle.std.proofs.lemmas.List.{length-map}
 use Rattle.at_script.proofs.Numbered.{with_name, now_added}
 use Rattle.at_script.specs.declared.meaning.Meaning.{Meaning}
