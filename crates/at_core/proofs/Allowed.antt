@@ -165,7 +165,7 @@ module _ (opened : World) (limits : Limits) where
     keeps,
     tt,
     record { ghost = b.ghost; holds = own_moves opened limits s b.ghost b.holds id me.0 at live me.1 (gone_online me.0) me.0.who.number me.0.tags.global room (online_quiet me.0) },
-    λ _. refl,
+    λ _. (refl, refl),
   )
 
   pub turns_offline : (slots id : ℕ) (me : Me Slot View) → me.0.who.live ≡ true → me.0.who.number < passes
@@ -175,7 +175,7 @@ module _ (opened : World) (limits : Limits) where
     keeps,
     tt,
     record { ghost = b.ghost; holds = own_moves opened limits s b.ghost b.holds id me.0 at live me.1 (gone_offline me.0) me.0.who.number 0 room (offline_quiet me.0) },
-    λ _. refl,
+    λ _. (refl, refl),
   )
 
   -- a pass splits off

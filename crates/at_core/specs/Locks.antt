@@ -1,5 +1,5 @@
 -- The locks of the table: what a view knows of each, and what each protects.
-use Rattle.std.specs.Prelude.{ℕ, suc, ◌≡◌, ◌==◌, ◌≤◌, Bool, true, List, [], ◌∷◌, ◌++◌, length, slice_get, if◌then◌else◌, Contains}
+use Rattle.std.specs.Prelude.{ℕ, suc, ◌≡◌, ◌==◌, ◌≤◌, Bool, true, false, List, [], ◌∷◌, ◌++◌, length, slice_get, if◌then◌else◌, Contains}
 use mathlib.Core.List.{IsPrefix}
 use Rattle.at_value.specs.declared.operation.Op as op
 use Rattle.at_model.specs.World.{World}
@@ -38,6 +38,9 @@ hold_of (locks.Row o) v = hold_at o v.holds
 
 abbrev pub holds : lock.Lock → View → Bool
 holds l v = (hold_of l v).held
+
+abbrev pub HoldsNone : View → Type 0
+HoldsNone v = (l : lock.Lock) → holds l v ≡ false
 
 -- the copies of the words of an object's row: the first entry counts
 abbrev pub copy_at : ℕ → List RowCopy → RowWords

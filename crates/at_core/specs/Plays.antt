@@ -66,11 +66,11 @@ LoadsGlobal st m n m' = st.word ≡ number_of global_sequence → (m' ≡ (globa
 
 -- A pass that goes online stores what it loaded, and one that goes offline 0.
 abbrev pub GoesOnline : Step Slot → Me Slot View → ℕ → Me Slot View → Type 0
-GoesOnline st m n m' = st.word ≡ number_of (own_sequence m.0.who.number) → m' ≡ (gone_online m.0, m.1)
+GoesOnline st m n m' = st.word ≡ number_of (own_sequence m.0.who.number) → (st.first ≡ m.0.tags.global) × (m' ≡ (gone_online m.0, m.1))
 
 abbrev pub GoesOffline : Step Slot → Me Slot View → ℕ → Me Slot View → Type 0
-GoesOffline st m n m' = st.word ≡ number_of (own_sequence m.0.who.number) → m' ≡ (gone_offline m.0, m.1)
+GoesOffline st m n m' = st.word ≡ number_of (own_sequence m.0.who.number) → (st.first ≡ 0) × (m' ≡ (gone_offline m.0, m.1))
 
 -- A give stores 0.
 abbrev pub Gives : Step Slot → Me Slot View → ℕ → Me Slot View → Type 0
-Gives st m n m' = (l : lock.Lock) → IsWordOf st l → (n ≡ 0) × (m' ≡ (given l m.0, rest m.1)) × Brought m.0
+Gives st m n m' = (l : lock.Lock) → IsWordOf st l → (st.first ≡ 0) × (m' ≡ (given l m.0, rest m.1)) × Brought m.0

@@ -6,7 +6,7 @@ ghost use Rattle.at_core.specs.SomeRun.{HaveEachKind, SomeRunGoes};
 /// home agrees with the history, a held lock keeps what it protects, births and numbers are distinct, and a slot is out
 /// exactly to the pass that holds its lock. It holds in the opening state, and each step that is asked for what it asks
 /// leaves it so. The steps are those that take a lock or find it held, give it back, take a value out of a slot or put
-/// one in, split a pass off, and take a pass in.
+/// one in, split a pass off, take a pass in, load the global sequence, go online, and go offline.
 pub fn every_run()
     ensures opened { OpeningHolds }
     ensures kept { EveryRunHolds }

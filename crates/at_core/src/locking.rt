@@ -20,10 +20,10 @@ use atomic_table::Play;
 pub(crate) struct TakePlay;
 
 impl Play<Option<Stored>, View> for TakePlay {
-    ghost use Rattle.at_model.specs.World.{opening};
+    ghost use Rattle.at_core.specs.Opened.{opening_of};
     ghost use Rattle.at_core.specs.Plays.{Takes};
 
-    ghost then = { Takes opening };
+    ghost then = { λ st m. Takes (opening_of m.0.who.limits) st m };
 }
 
 /// What giving a lock back tells.
@@ -86,7 +86,8 @@ pub fn try_lock(world: &World, pass: &mut Pass, lock: Lock) -> u64
 }
 
 /// Gives back a lock that the pass holds, with the value in its slot. It asks that the value agrees with what the lock
-/// kept, and for the lock of the types that their lists go back as they stand in the view.
+/// kept, and for the lock of the types that their lists go back as they stand in the view. A pass that sleeps for the lock is
+/// woken.
 pub fn unlock(world: &World, pass: &mut Pass, lock: Lock)
     requires of { IsOf pass.old world.now }
     requires has { (back : TypeLists) × (x : stored.Stored) × (slot_at pass.old lock ≡ Some (Some x))
@@ -104,6 +105,7 @@ pub fn unlock(world: &World, pass: &mut Pass, lock: Lock)
         .shared
         .store::<GivePlay>(&mut pass.seat, lock.word(), 0);
     pass.hand.remove(0);
+    world.wake(&lock);
 }
 
 /// Puts a value into a slot that is in hand, or nothing, and gives what was there.

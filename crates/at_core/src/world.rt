@@ -15,7 +15,7 @@ use at_value::Limits;
 use at_view::View;
 use atomic_table::{Seat, Table, TableRule};
 use std::alloc::Global;
-use std::sync::atomic::AtomicBool;
+use std::sync::atomic::AtomicU64;
 
 /// How many locks a pass may hold at once. Twenty sections of two rows each and the lock of the types are forty-one.
 pub const MOST_HELD: usize = 64;
@@ -41,11 +41,11 @@ pub(crate) type Board = Table<Option<Stored>, View, Limits, Law, Global>;
 pub struct World {
     pub(crate) table: Board,
     pub(crate) limits: Limits,
-    /// For each lock, in the order of their slots, whether a pass may sleep until it is given back.
-    pub(crate) sleepers: Vec<AtomicBool>,
+    /// For each lock, in the order of their slots, how many passes sleep until it is given back, or are about to.
+    pub(crate) sleepers: Vec<AtomicU64>,
     ghost sized: { (table.shared.table_id.words ≡ table_words) × (table.shared.table_id.slots ≡ suc objects) },
     ghost limited: { table.shared.key ≡ limits },
-    ghost flagged: { length sleepers.items ≡ suc objects },
+    ghost counted: { length sleepers.items ≡ suc objects },
 }
 
 /// A pass: what one thread steps with. Contracts see what it knows, its view.

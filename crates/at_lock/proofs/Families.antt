@@ -14,13 +14,14 @@ use Rattle.at_core.specs.declared.lock.Lock.TheVariants as locks
 use Rattle.at_core.specs.declared.stored.Stored.TheVariants as stored
 use Rattle.at_core.specs.Locks.{holds}
 use Rattle.at_core.specs.Plays.{Brought}
-use Rattle.at_core.specs.Steps.{given, parted, child, merged, global_loaded, gone_online, next_number, HoldsTypesAlone}
+use Rattle.at_core.specs.Steps.{given, parted, child, merged, global_loaded, gone_online, gone_offline, next_number, HoldsTypesAlone}
 use Rattle.at_core.proofs.LockLemmas.{hold_taken, hold_beside, hold_given, hold_kept, holds_parted, holds_merged}
 use Rattle.at_lock.specs.Holding.{IsRight}
 use Rattle.at_core.proofs.Counts.{times_cons, weight_same}
-use Rattle.at_core.proofs.QuietSteps.{holds_quiet, load_quiet, online_quiet}
+use Rattle.at_core.proofs.QuietSteps.{holds_quiet, load_quiet, online_quiet, offline_quiet}
 use Rattle.at_lock.specs.Waits.{IsTaken, waited}
-use Rattle.at_lock.specs.Families.{HoldsNone, HasComeOnline, HasSeenMore}
+use Rattle.at_core.specs.Locks.{HoldsNone}
+use Rattle.at_lock.specs.Families.{HasComeOnline, HasSeenMore, ended}
 use Rattle.at_lock.proofs.Waiting.{holds_waited, history_waited, who_waited}
 
 types_apart : (o : ℕ) → locks.Row o ≢ locks.Types
@@ -127,3 +128,24 @@ more_children v held b t =
     let c = times_cons b held.types.lists.next_birth held.who.children in
     let e : times b held.who.children ≡ times b v.who.children = ap (times b) (same_children v held t) in
     omega arith
+
+-- A pass that ends
+
+by_online : (P : View → Type 0) (v : View) → (v.tags.online ≡ true → P (gone_offline v)) → (v.tags.online ≡ false → P v) → P (ended v)
+by_online P v on off = by_test v.tags.online refl
+  where
+    by_test : (t : Bool) → v.tags.online ≡ t → P (ended v)
+    by_test true e = subst (λ (b : Bool). P (if b then gone_offline v else v)) (sym e) (on e)
+    by_test false e = subst (λ (b : Bool). P (if b then gone_offline v else v)) (sym e) (off e)
+
+pub ended_history : (v w : View) → w ≡ ended v → w.history ≡ v.history
+ended_history v w e = ap (λ u. u.history) e ∙ by_online (λ u. u.history ≡ v.history) v (λ _. refl) (λ _. refl)
+
+pub ended_write : (v w : View) → w ≡ ended v → w.write ≡ v.write
+ended_write v w e = ap (λ u. u.write) e ∙ by_online (λ u. u.write ≡ v.write) v (λ _. refl) (λ _. refl)
+
+pub ended_offline : (v w : View) → w ≡ ended v → w.tags.online ≡ false
+ended_offline v w e = ap (λ u. u.tags.online) e ∙ by_online (λ u. u.tags.online ≡ false) v (λ _. refl) (λ off. off)
+
+pub ended_holds : (v w : View) (l : lock.Lock) → w ≡ ended v → holds l w ≡ holds l v
+ended_holds v w l e = ap (holds l) e ∙ by_online (λ u. holds l u ≡ holds l v) v (λ _. holds_quiet v (gone_offline v) (offline_quiet v) l) (λ _. refl)

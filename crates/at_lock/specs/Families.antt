@@ -1,16 +1,11 @@
 -- What splits and joins make of the views of passes.
-use Rattle.std.specs.Prelude.{ℕ, ◌≡◌, ◌<◌, false, Some, None}
+use Rattle.std.specs.Prelude.{ℕ, ◌≡◌, ◌<◌, false, Some, None, if◌then◌else◌}
 use mathlib.Core.List.{IsPrefix}
 use Rattle.at_types.specs.Tags.{times}
 use Rattle.at_view.specs.declared.view.View.{View}
-use Rattle.at_core.specs.declared.lock.Lock as lock
 use Rattle.at_core.specs.declared.lock.Lock.TheVariants as locks
-use Rattle.at_core.specs.Locks.{holds}
-use Rattle.at_core.specs.Steps.{given, parted, child, merged, next_number, global_loaded, gone_online}
+use Rattle.at_core.specs.Steps.{given, parted, child, merged, next_number, global_loaded, gone_online, gone_offline}
 use Rattle.at_lock.specs.Waits.{IsTaken}
-
-abbrev pub HoldsNone : View → Type 0
-HoldsNone v = (l : lock.Lock) → holds l v ≡ false
 
 -- The pass has loaded the global sequence, which isn't 0, and gone online with it.
 pub record HasComeOnline (v w : View) : Type 0 where
@@ -34,11 +29,15 @@ pub record HasNoNumber (v w : View) : Type 0 where
   pub free : next_number held.types.lists.numbers ≡ None
   pub after : w ≡ given locks.Types held
 
--- Under the lock of the types the other pass was taken in.
+-- a pass that ends goes offline, if it isn't yet
+abbrev pub ended : View → View
+ended v = if v.tags.online then gone_offline v else v
+
+-- Under the lock of the types the other pass was taken in, offline.
 pub record IsJoined (v other w : View) : Type 0 where
   pub held : View
   pub taken : IsTaken locks.Types v held
-  pub after : w ≡ given locks.Types (merged held other)
+  pub after : w ≡ given locks.Types (merged held (ended other))
 
 -- What one pass has seen comes before what it has seen later, which is no less; it is the same pass.
 pub record HasSeenMore (v w : View) : Type 0 where
@@ -46,8 +45,7 @@ pub record HasSeenMore (v w : View) : Type 0 where
   pub birth : w.history.birth ≡ v.history.birth
   pub number : w.who.number ≡ v.who.number
 
--- The pass may be taken in: it is a child, has no cache entry open and is offline.
+-- The pass may be taken in: it is a child, and has no cache entry open.
 pub record MayEnd (v other : View) : Type 0 where
   pub child : 0 < times other.history.birth v.who.children
   pub closed : other.write.writing ≡ false
-  pub offline : other.tags.online ≡ false

@@ -7,13 +7,14 @@ ghost use Rattle.at_core.specs.declared.stored.Stored.TheVariants as stored;
 ghost use Rattle.at_core.specs.Passes.{view, hand, IsOf, IsSame, HasSameHand};
 ghost use Rattle.at_core.specs.Plays.{Brought};
 ghost use Rattle.at_core.specs.Steps.{given, MayGoOffline};
-ghost use Rattle.at_lock.specs.Families.{HoldsNone, HasComeOnline, IsSplit, HasNoNumber, IsJoined, HasSeenMore, MayEnd};
+ghost use Rattle.at_core.specs.Locks.{HoldsNone};
+ghost use Rattle.at_lock.specs.Families.{HasComeOnline, IsSplit, HasNoNumber, IsJoined, HasSeenMore, MayEnd, ended};
 ghost use Rattle.at_lock.specs.Holding.{HasOut, IsRight};
 
 use crate::slots::{types_in, types_out};
 use crate::taking::{give, take};
 use at_core::family::{split_off, take_in};
-use at_core::sequences::{go_online, load_global};
+use at_core::sequences::{go_offline, go_online, load_global};
 use at_core::{Lock, Pass, World};
 use at_types::Types;
 use std::sync::Wait;
@@ -75,10 +76,22 @@ pub fn split<R: Wait>(world: &World, rt: &R, pass: &mut Pass) -> Result<Pass, No
     Ok(new)
 }
 
+/// A pass that has no cache entry open goes offline, if it isn't yet.
+fn end(world: &World, pass: &mut Pass)
+    requires of { IsOf pass.old world.now }
+    requires closed { (view pass.old).write.writing ≡ false }
+    ensures same { IsSame pass.old pass.new × IsOf pass.new world.now × HasSameHand pass.old pass.new }
+    ensures ended { view pass.new ≡ ended (view pass.old) }
+{
+    if pass.online() {
+        go_offline(world, pass);
+    }
+}
+
 /// A pass takes in another that was split off it, or off a pass that it took in. It has then seen what both saw, its own
 /// writes are those of both, of which no place was own to both, its children are those of both, and the other's number is free.
-/// Neither holds a lock; the other has no cache entry open and is offline. It waits for the lock of the types.
-pub fn join<R: Wait>(world: &World, rt: &R, pass: &mut Pass, other: Pass)
+/// Neither holds a lock; the other has no cache entry open, and goes offline first. It waits for the lock of the types.
+pub fn join<R: Wait>(world: &World, rt: &R, pass: &mut Pass, mut other: Pass)
     requires of { IsOf pass.old world.now × IsOf other world.now }
     requires out { HoldsNone (view pass.old) × HoldsNone (view other) }
     requires may { MayEnd (view pass.old) (view other) }
@@ -90,6 +103,7 @@ pub fn join<R: Wait>(world: &World, rt: &R, pass: &mut Pass, other: Pass)
     ensures own { (view pass.new).history.own ≡ (view pass.old).history.own ++ (view other).history.own }
     ensures once { (p : ℕ) → times p (view pass.new).history.own ≤ 1 }
 {
+    end(world, &mut other);
     take(world, rt, pass, Lock::Types);
     let mut types = types_out(world, pass);
     let number = other.number();

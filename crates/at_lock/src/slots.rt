@@ -1,10 +1,10 @@
 //! The values that come with locks: the types, and the dictionaries of rows.
-ghost use Rattle.std.specs.Prelude.{◌≡◌};
+ghost use Rattle.std.specs.Prelude.{◌≡◌, Some};
 ghost use Rattle.at_core.specs.declared.lock.Lock.TheVariants as locks;
 ghost use Rattle.at_core.specs.declared.stored.Stored.TheVariants as stored;
 ghost use Rattle.at_core.specs.Locks.{AreKept};
 ghost use Rattle.at_core.specs.Opened.{opening_of};
-ghost use Rattle.at_core.specs.Passes.{view, IsOf, IsSame, IsElsewhereSame};
+ghost use Rattle.at_core.specs.Passes.{view, slot_at, IsOf, IsSame, IsElsewhereSame};
 ghost use Rattle.at_lock.specs.Holding.{HasValue, HasOut, IsRight, IsRightNow};
 
 use at_core::locking::{slot_in, slot_out};
@@ -31,13 +31,14 @@ pub fn types_out(world: &World, pass: &mut Pass) -> Box<Types>
     }
 }
 
-/// Puts the types back into their slot. They have to be those of what the lock kept, with the lists that the pass has.
+/// Puts types into their slot. The lock can be given back where they are those of what it kept, with the lists that the pass
+/// has.
 pub fn types_in(world: &World, pass: &mut Pass, types: Box<Types>)
     requires of { IsOf pass.old world.now }
     requires out { HasOut pass.old locks.Types }
-    requires right { IsRight (view pass.old) locks.Types (stored.Types types) }
     ensures same { IsSame pass.old pass.new × IsOf pass.new world.now × (view pass.new ≡ view pass.old) }
-    ensures has { HasValue pass.new locks.Types }
+    ensures within { slot_at pass.new locks.Types ≡ Some (Some (stored.Types types)) }
+    ensures has { IsRight (view pass.old) locks.Types (stored.Types types) → HasValue pass.new locks.Types }
     ensures elsewhere { IsElsewhereSame pass.old pass.new locks.Types }
 {
     slot_in(world, pass, Lock::Types, Stored::Types(types));
@@ -62,13 +63,13 @@ pub fn body_out(world: &World, pass: &mut Pass, o: Obj) -> Body
     }
 }
 
-/// Puts the dictionary of a row back into its slot. It has to be that of what the lock kept.
+/// Puts a dictionary into the slot of a row. The row's lock can be given back where it is that of what the lock kept.
 pub fn body_in(world: &World, pass: &mut Pass, o: Obj, body: Body)
     requires of { IsOf pass.old world.now }
     requires out { HasOut pass.old (locks.Row o) }
-    requires right { IsRight (view pass.old) (locks.Row o) (stored.Body body) }
     ensures same { IsSame pass.old pass.new × IsOf pass.new world.now × (view pass.new ≡ view pass.old) }
-    ensures has { HasValue pass.new (locks.Row o) }
+    ensures within { slot_at pass.new (locks.Row o) ≡ Some (Some (stored.Body body)) }
+    ensures has { IsRight (view pass.old) (locks.Row o) (stored.Body body) → HasValue pass.new (locks.Row o) }
     ensures elsewhere { IsElsewhereSame pass.old pass.new (locks.Row o) }
 {
     slot_in(world, pass, Lock::Row(o), Stored::Body(body));

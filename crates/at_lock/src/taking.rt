@@ -6,7 +6,7 @@ ghost use Rattle.at_core.specs.Passes.{view, hand, slot_at, IsOf, IsSame, IsElse
 ghost use Rattle.at_core.specs.Plays.{Brought, Found, IsAlone};
 ghost use Rattle.at_core.specs.Steps.{given, mark, missed};
 ghost use Rattle.at_lock.specs.declared.taking.Taken.TheVariants as taken;
-ghost use Rattle.at_lock.specs.Families.{HoldsNone};
+ghost use Rattle.at_core.specs.Locks.{HoldsNone};
 ghost use Rattle.at_lock.specs.Holding.{HasValue};
 ghost use Rattle.at_lock.specs.Waits.{IsTaken, IsTakenAtOnce};
 
@@ -63,7 +63,7 @@ pub fn take<R: Wait>(world: &World, rt: &R, pass: &mut Pass, lock: Lock)
     for _ in rt.forever() {
         match try_take(world, pass, *lock) {
             Taken::Got => return,
-            Taken::Held(holder) => world.wait_for(rt, *lock, holder),
+            Taken::Held(holder) => world.wait_for(rt, pass, lock, holder),
         }
     }
     unreachable!()
@@ -79,7 +79,5 @@ pub fn give(world: &World, pass: &mut Pass, lock: Lock)
     ensures elsewhere { IsElsewhereSame pass.old pass.new lock }
     ensures brought { Brought (view pass.old) }
 {
-    let lock = &lock;
-    unlock(world, pass, *lock);
-    world.wake(*lock);
+    unlock(world, pass, lock);
 }

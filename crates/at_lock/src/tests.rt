@@ -2,12 +2,11 @@
 ghost use Rattle.std.specs.Prelude.{◌≡◌, ◌<◌, false, length};
 ghost use Rattle.at_core.specs.Locks.{holds};
 ghost use Rattle.at_core.specs.Passes.{view, hand, IsOf, IsSame};
-ghost use Rattle.at_lock.specs.Families.{HoldsNone};
+ghost use Rattle.at_core.specs.Locks.{HoldsNone};
 
 use crate::{
     NoPass, Taken, body_in, body_out, give, join, split, take, try_take, types_in, types_out,
 };
-use at_core::sequences::go_offline;
 use at_core::{Lock, OpenFault, Pass, World};
 use at_value::{Limits, Name, Obj};
 use std::sync::Wait;
@@ -87,10 +86,9 @@ fn passes_run_out<R: Wait>(world: &World, rt: &R, pass: &mut Pass) -> Result<(u8
     for _ in 0..62 {
         split(world, rt, pass)?;
     }
-    let mut last = split(world, rt, pass)?;
+    let last = split(world, rt, pass)?;
     let number = last.number();
     let full = split(world, rt, pass).is_err();
-    go_offline(world, &mut last);
     join(world, rt, pass, last);
     let again = split(world, rt, pass)?;
     Ok((number, full, again.number()))

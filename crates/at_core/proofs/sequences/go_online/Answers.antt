@@ -39,7 +39,7 @@ invariant_of-pass c =
     let p = c.args.pass.now in
     let v = p.seat.me.0 in
     let w = gone_online v in
-    let e : c.store.new.seat.me ≡ (w, p.seat.me.1) = c.store.ensures.2 (c.own_sequence.ensures ∙ ap (λ (n : ℕ). number_of (own_sequence n)) (sym p.numbered.0)) in
+    let e : c.store.new.seat.me ≡ (w, p.seat.me.1) = (c.store.ensures.2 (c.own_sequence.ensures ∙ ap (λ (n : ℕ). number_of (own_sequence n)) (sym p.numbered.0))).1 in
     record {
       live = ap (λ m. m.0.who.live) e ∙ p.live;
       numbered = (ap (λ m. m.0.who.number) e ∙ p.numbered.0, p.numbered.1);

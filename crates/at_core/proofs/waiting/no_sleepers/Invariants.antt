@@ -2,4 +2,4 @@ use Rattle.std.proofs.Common.{◌≡◌, length}
 use Rattle.at_core.proofs.waiting.no_sleepers.Given as goal
 
 abbrev pub invariant-loop : goal.invariant-loop
-invariant-loop l = length l.flags.items ≡ l.counter
+invariant-loop l = length l.counts.items ≡ l.counter

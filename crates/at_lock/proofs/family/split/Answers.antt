@@ -8,7 +8,8 @@ use Rattle.at_core.specs.Passes.{view}
 use Rattle.at_core.specs.Steps.{given, parted, child, next_number, HoldsTypesAlone}
 use Rattle.at_core.proofs.HandOf.{empty_hand}
 use Rattle.at_core.proofs.LockLemmas.{holds_child}
-use Rattle.at_lock.specs.Families.{HoldsNone, HasComeOnline, HasSeenMore}
+use Rattle.at_core.specs.Locks.{HoldsNone}
+use Rattle.at_lock.specs.Families.{HasComeOnline, HasSeenMore}
 use Rattle.at_lock.proofs.Families.{alone, alone_parted, none_given, more_taken, numbers_of, least_number, online_free, child_among, same_children, more_children}
 use Rattle.at_lock.proofs.family.split.Goals as goal
 

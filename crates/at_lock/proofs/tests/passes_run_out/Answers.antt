@@ -1,5 +1,4 @@
-use Rattle.std.proofs.Common.{ℕ, ◌<◌, sym, ap, ◌∙◌, subst, arith}
-use Rattle.at_types.specs.Tags.{times}
+use Rattle.std.proofs.Common.{ap, arith}
 use Rattle.at_view.specs.declared.view.View.{View}
 use Rattle.at_core.specs.Passes.{view}
 use Rattle.at_lock.proofs.tests.passes_run_out.Goals as goal
@@ -25,13 +24,9 @@ split-requires-2-clause-out g c = c.loop.invariant.1
 pub join-requires-clause-may : goal.join-requires-clause-may
 join-requires-clause-may g c =
     let last = view c.in_ok-last.last in
-    let off = c.go_offline.ensures.offline in
     let more = c.split-3.ensures.children last.history.birth in
     let child = c.in_ok-last.ensures.child in
-    let there : 0 < times last.history.birth (view c.split-3.new.pass).who.children = omega arith in
-    let born = ap (λ (v : View). v.history.birth) off in
     record {
-      child = subst (λ (b : ℕ). 0 < times b (view c.split-3.new.pass).who.children) (sym born) there;
-      closed = ap (λ (v : View). v.write.writing) off ∙ ap (λ (v : View). v.write.writing) c.in_ok-last.ensures.ok.begins.after;
-      offline = ap (λ (v : View). v.tags.online) off;
+      child = omega arith;
+      closed = ap (λ (v : View). v.write.writing) c.in_ok-last.ensures.ok.begins.after;
     }

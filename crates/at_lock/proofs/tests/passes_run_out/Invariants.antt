@@ -1,5 +1,5 @@
 use Rattle.at_core.specs.Passes.{view, IsOf}
-use Rattle.at_lock.specs.Families.{HoldsNone}
+use Rattle.at_core.specs.Locks.{HoldsNone}
 use Rattle.at_lock.proofs.tests.passes_run_out.Given as goal
 
 abbrev pub invariant-loop : goal.invariant-loop
