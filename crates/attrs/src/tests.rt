@@ -27,6 +27,14 @@ const TRANSCRIPT: &str = concat!(
     "final\nclass object = object\nclass C = C object\n.x 1\nobject #0 C\nend\n"
 );
 
+/// A script that begins one statement, and its transcript.
+const SHORT: &str = "attrs 1\nbudget 1\nmain\nmro object\nend\n";
+
+const SHORT_TRANSCRIPT: &str = concat!(
+    "attrs transcript 1\nscript 37\nattrs 1\nbudget 1\nmain\nmro object\nend\n\n",
+    "lines 1\nm 1 0 locked mro object = order object\nfinal\nclass object = object\nend\n"
+);
+
 /// How many bytes a source gives and a sink takes in one call, at least one, which call of each fails, and how many
 /// bytes the sink takes in all.
 #[derive(Clone, Copy, Debug)]
@@ -226,23 +234,23 @@ fn write_fails<R: Abort>(
 #[test]
 fn a_write_fault_leaves_a_prefix(rt: HostRuntime) -> Result<(), Fail> {
     // The last call is the flush.
-    for number in 0..=TRANSCRIPT.len() {
-        let written = prefix(TRANSCRIPT, number);
-        write_fails(&rt, rt.alloc(), FIRST, &failing_at(number), written)?;
+    for number in 0..=SHORT_TRANSCRIPT.len() {
+        let written = prefix(SHORT_TRANSCRIPT, number);
+        write_fails(&rt, rt.alloc(), SHORT, &failing_at(number), written)?;
     }
     Ok(())
 }
 
 #[test]
 fn a_full_sink_has_a_prefix(rt: HostRuntime) -> Result<(), Fail> {
-    for room in 0..TRANSCRIPT.len() {
+    for room in 0..SHORT_TRANSCRIPT.len() {
         let ends = Ends {
             room,
             most_written: 100,
             ..SOUND
         };
-        let written = prefix(TRANSCRIPT, room);
-        write_fails(&rt, rt.alloc(), FIRST, &ends, written)?;
+        let written = prefix(SHORT_TRANSCRIPT, room);
+        write_fails(&rt, rt.alloc(), SHORT, &ends, written)?;
     }
     Ok(())
 }
