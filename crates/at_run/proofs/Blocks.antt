@@ -1,13 +1,11 @@
 -- Blocks that run one after another on the plain data model are the plain run of their script.
-use Rattle.std.proofs.Common.{◌≡◌, ◌∙◌, refl, sym, ap, subst, ℕ, zero, suc, ◌+◌, ◌-◌, ◌*◌, ◌^◌, ◌<◌, ◌≤◌, ◌==◌, nat_le, arith, Bool, true, false, List, [], ◌∷◌, ◌++◌, length, map, get_or, slice_get, Option, Some, None, append-nil, append_assoc, length-append, suc-mul}
+use Rattle.std.proofs.Common.{◌≡◌, ◌∙◌, refl, sym, ap, subst, ℕ, zero, suc, ◌+◌, ◌-◌, ◌*◌, ◌^◌, ◌<◌, ◌≤◌, nat_le, arith, Bool, true, false, List, [], ◌∷◌, ◌++◌, length, map, get_or, slice_get, Some, None, append-nil, append_assoc, length-append, suc-mul}
 use Rattle.std.specs.Prelude.{All}
 use Rattle.std.proofs.lemmas.Bool.{ne_eqb, leb-true, leb-false}
 use Rattle.std.proofs.lemmas.List.{get_or_append_left, map-append}
 use Rattle.std.proofs.lemmas.Option.{slice_get_within}
 use Rattle.std.proofs.Math.Seq.{get_or-append_seam}
 use Rattle.std.proofs.lemmas.List.Elements.{All-nil, All-append, All-weaker}
-use Rattle.at_value.specs.Types.{Op}
-use Rattle.at_model.specs.declared.last.Final as final
 use Rattle.at_model.specs.Final.{final_of}
 use Rattle.at_line.specs.Types.{Line, What}
 use Rattle.at_line.specs.Kept.{whats_of_thread}
@@ -25,7 +23,7 @@ use Rattle.at_thread.proofs.Alone.{numbered_length}
 use Rattle.at_thread.proofs.Counts.{same_count}
 use Rattle.at_thread.proofs.Numbering.{own, others, whats_of_both, whats_of_numbered}
 use Rattle.at_run.specs.Opening.{opening_of}
-use Rattle.at_run.specs.PlainRun.{IsUndisturbed, IsPlainRun}
+use Rattle.at_run.specs.PlainRun.{IsUndisturbed}
 use Rattle.at_run.specs.Turns.{IsPlain}
 use Rattle.at_run.specs.Blocks.{RunsBlock, lines_of_logs, AreSerial, SoFar, Stands, IsWholeRun, most_of}
 use Rattle.at_run.proofs.Serial.{serial_append}

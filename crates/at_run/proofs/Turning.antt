@@ -1,9 +1,8 @@
 -- Turns of a thread on the plain data model, one after another.
-use Rattle.std.proofs.Common.{◌≡◌, ◌∙◌, refl, sym, ap, subst, ℕ, suc, ◌+◌, ◌*◌, ◌^◌, ◌<◌, ◌≤◌, arith, Bool, true, false, List, [], ◌∷◌, ◌++◌, length, None, if◌then◌else◌, append-nil, length-append}
+use Rattle.std.proofs.Common.{◌≡◌, ◌∙◌, refl, sym, ap, subst, ℕ, suc, ◌+◌, ◌^◌, ◌<◌, ◌≤◌, arith, Bool, true, false, List, [], ◌∷◌, ◌++◌, length, if◌then◌else◌, append-nil, length-append}
 use Rattle.std.specs.Prelude.{All}
-use Rattle.std.proofs.lemmas.List.Elements.{All-nil, All-cons, All-head, All-tail, All-push, All-weaker}
+use Rattle.std.proofs.lemmas.List.Elements.{All-nil, All-cons, All-head, All-tail, All-push}
 use Rattle.at_value.specs.Types.{Op}
-use Rattle.at_model.specs.declared.last.Final as final
 use Rattle.at_line.specs.Types.{Line, Local, What}
 use Rattle.at_line.specs.declared.line.LineOp.TheVariants as line_ops
 use Rattle.at_line.specs.declared.line.LineReply.TheVariants as line_replies
@@ -12,23 +11,17 @@ use Rattle.at_line.specs.declared.line.What.TheVariants as whats
 use Rattle.at_model.specs.World.{World}
 use Rattle.at_model.specs.Step.{step, is_write}
 use Rattle.at_model.specs.History.{replay}
-use Rattle.at_line.specs.Serial.{GoesOn, Adds, IsSerial, NamesNoLimit}
-use Rattle.at_model.specs.Final.{final_of}
+use Rattle.at_line.specs.Serial.{GoesOn, Adds, NamesNoLimit}
 use Rattle.at_world.specs.Plain.{PlainState, stepped, place_after_write}
-use Rattle.at_line.proofs.Serials.{adds_weaker}
 use Rattle.at_model.proofs.OnlyWrites.{step-left}
 use Rattle.at_script.specs.Parts.{ScriptParts}
 use Rattle.at_thread.specs.Execution as execution
 use Rattle.at_thread.specs.Execution.{next_of, start}
 use Rattle.at_thread.specs.Executions.{Makes, Leads}
-use Rattle.at_thread.specs.Runs.{numbered_lines, unbound}
-use Rattle.at_thread.proofs.Numbering.{whats_of_numbered}
-use Rattle.at_thread.proofs.Alone.{alone_run}
+use Rattle.at_thread.specs.Runs.{numbered_lines}
 use Rattle.at_thread.proofs.Steps.{spare, Few}
 use Rattle.at_thread.proofs.Leading.{leads_more}
-use Rattle.at_line.specs.Paths.{IsLocked}
 use Rattle.at_run.specs.Opening.{opening_of}
-use Rattle.at_run.specs.PlainRun.{IsUndisturbed, IsPlainRun}
 use Rattle.at_run.specs.Turns.{IsPlain, Tells}
 use Rattle.at_run.specs.Blocks.{IsWorldOf, Becomes, Leading, most_of}
 use Rattle.at_run.proofs.Serial.{serial_append}

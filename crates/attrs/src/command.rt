@@ -1,10 +1,10 @@
 //! The commands of the program.
-ghost use Rattle.std.specs.Prelude.{◌≡◌, ◌≤◌, ◌↔◌, ◌∷◌, [], ◌⊎◌, Some, IfOk, IsTrue, OnErr};
-ghost use Rattle.std.specs.Prelude.{drop, map, codes, string_bytes};
+ghost use Rattle.std.specs.Prelude.{◌≡◌, ◌≤◌, ◌⊎◌, Some, None, IfOk, OnErr, drop, map, string_bytes};
 ghost use Rattle.std.specs.Vec.Iter.{into_iter_items};
 ghost use Rattle.at_script.specs.Script.{script_of};
 ghost use Rattle.at_run.specs.PlainRun.{IsPlainRun};
 ghost use Rattle.at_run.specs.LegalRun.{IsLegalRun};
+ghost use Rattle.attrs.specs.Commands.{command_of};
 ghost use Rattle.attrs.specs.Answers.{SourceChange, source_change, sink_change, ReadNothing, ReadTooMany, Wrote};
 ghost use Rattle.attrs.specs.Answers.{FailedWriting, WroteNothing, IsAnswer, IsTextAnswer, IsUsageAnswer};
 ghost use Rattle.attrs.specs.Answers.{IsNoCommandAnswer, IsPlainAndLegal, refusal_text};
@@ -12,7 +12,7 @@ ghost use Rattle.attrs.specs.Answers.{IsNoCommandAnswer, IsPlainAndLegal, refusa
 use crate::gate::Gate;
 use crate::status::Status;
 use crate::telling::{refusal, tell};
-use crate::words::given_words;
+use crate::words::{Command, command_of, given_words};
 use at_run::run_plain;
 use at_script::{Cause, ReadFault, Script};
 use at_source::{ReadAllFault, Sink, Source, read_all};
@@ -28,9 +28,10 @@ pub(crate) const TOO_MANY: usize = 1_048_577;
 
 /// Does what the words say. `run` reads a script to the end of the source, runs it, and writes the transcript of one
 /// legal history: each write has its own place, the lines run the script, every reply is what the data model gives
-/// after just that many writes, and the namespaces printed last are those after all of them. Any other words are no
-/// command: nothing is read, and the usage line is written. What was written whole is flushed, and then neither the
-/// source nor the sink failed in this call.
+/// after just that many writes, and the namespaces printed last are those after all of them. `plain` does the same with
+/// the script's one run in which each line is done after the line before it. Any other words are no command: nothing is
+/// read, and the usage line is written. What was written whole is flushed, and then neither the source nor the sink
+/// failed in this call.
 pub fn attrs<R: Wait + Threads + Sync, S: Source, K: Sink, G: Gate + Sync>(
     _rt: &R,
     alloc: Global,
@@ -39,20 +40,26 @@ pub fn attrs<R: Wait + Threads + Sync, S: Source, K: Sink, G: Gate + Sync>(
     out: &mut K,
     _gate: &G,
 ) -> Status
-    ensures run { map string_bytes words.now ≡ codes "run" ∷ [] →
+    ensures run { command_of (map string_bytes words.now) ≡ Some Command.Run →
         IsAnswer IsLegalRun (source_change S.left S.faults src.old src.new)
         (sink_change K.written K.is_flushed K.faults out.old out.new) result }
-    ensures usage { ¬ (map string_bytes words.now ≡ codes "run" ∷ []) →
+    ensures plain { command_of (map string_bytes words.now) ≡ Some Command.Plain →
+        IsAnswer IsPlainRun (source_change S.left S.faults src.old src.new)
+        (sink_change K.written K.is_flushed K.faults out.old out.new) result }
+    ensures legal { command_of (map string_bytes words.now) ≡ Some Command.Plain →
+        IsAnswer IsLegalRun (source_change S.left S.faults src.old src.new)
+        (sink_change K.written K.is_flushed K.faults out.old out.new) result }
+    ensures usage { command_of (map string_bytes words.now) ≡ None →
         IsUsageAnswer (source_change S.left S.faults src.old src.new)
         (sink_change K.written K.is_flushed K.faults out.old out.new) result }
 
     // No count of faults falls.
     ensures later { (S.faults src.old ≤ S.faults src.new) × (K.faults out.old ≤ K.faults out.new) }
 {
-    if is_run(words) {
-        plain_text(alloc, src, out)
-    } else {
-        usage(out)
+    match command_of(words) {
+        // The threads of a script run one after another for either.
+        Some(Command::Run | Command::Plain) => plain_text(alloc, src, out),
+        None => usage(out),
     }
 }
 
@@ -66,10 +73,19 @@ pub fn start<R: Wait + Threads + Sync, S: Source, K: Sink, G: Gate + Sync>(
     out: &mut K,
     gate: &G,
 ) -> Status
-    ensures run { IfOk arguments (λ all. map string_bytes (drop 1 (into_iter_items all)) ≡ codes "run" ∷ [] →
+    ensures run { IfOk arguments (λ all.
+        command_of (map string_bytes (drop 1 (into_iter_items all))) ≡ Some Command.Run →
         IsAnswer IsLegalRun (source_change S.left S.faults src.old src.new)
         (sink_change K.written K.is_flushed K.faults out.old out.new) result) }
-    ensures usage { IfOk arguments (λ all. ¬ (map string_bytes (drop 1 (into_iter_items all)) ≡ codes "run" ∷ []) →
+    ensures plain { IfOk arguments (λ all.
+        command_of (map string_bytes (drop 1 (into_iter_items all))) ≡ Some Command.Plain →
+        IsAnswer IsPlainRun (source_change S.left S.faults src.old src.new)
+        (sink_change K.written K.is_flushed K.faults out.old out.new) result) }
+    ensures legal { IfOk arguments (λ all.
+        command_of (map string_bytes (drop 1 (into_iter_items all))) ≡ Some Command.Plain →
+        IsAnswer IsLegalRun (source_change S.left S.faults src.old src.new)
+        (sink_change K.written K.is_flushed K.faults out.old out.new) result) }
+    ensures usage { IfOk arguments (λ all. command_of (map string_bytes (drop 1 (into_iter_items all))) ≡ None →
         IsNoCommandAnswer (source_change S.left S.faults src.old src.new)
         (sink_change K.written K.is_flushed K.faults out.old out.new) result) }
     ensures no_text { OnErr arguments (IsNoCommandAnswer (source_change S.left S.faults src.old src.new)
@@ -82,12 +98,6 @@ pub fn start<R: Wait + Threads + Sync, S: Source, K: Sink, G: Gate + Sync>(
         return Status::NoMemory;
     };
     attrs(rt, alloc, &words, src, out, gate)
-}
-
-fn is_run(words: &[String]) -> bool
-    ensures { IsTrue result ↔ (map string_bytes words.now ≡ codes "run" ∷ []) }
-{
-    words.len() == 1 && words[0].as_str() == "run"
 }
 
 fn usage<K: Sink>(out: &mut K) -> Status

@@ -1,9 +1,12 @@
 //! The program end to end, over sources and sinks in memory: the text that it writes, and how it ends. More scripts
 //! stand in `examples/`, each beside its transcript.
 
+mod blocks;
 mod changes;
 mod judging;
+mod legality;
 mod limits;
+mod running;
 mod words;
 
 use crate::command::{attrs, plain_text};

@@ -1,27 +1,30 @@
 //! Runs of scripts in which one line is changed. Each is then no run of its script any more, or isn't legal.
-use super::judging::{Breaks, broken_by, told};
-use at_line::{Line, LineOp, LineReply, Local, Ran, What};
+use super::judging::{Breaks, broken_by};
+use super::legality::told;
+use at_line::{Line, LineOp, LineReply, Local, MAIN_THREAD, What};
 use at_run::run_plain;
-use at_script::{Block, Script, read};
+use at_script::{Script, read};
 use at_value::{Class, Func, HookKind, Name, Obj, Op, Path, Place, Reply, Value};
 use at_world::Plain;
-use std::alloc::Global;
+use std::alloc::{AllocError, Global};
 use std::process::Abort;
 use std::test::Fail;
 
 /// A reply in the place of another.
 #[derive(Clone, Copy)]
-enum Anew {
+pub enum Anew {
+    NoAttr,
     Done,
     Made(Obj),
     Value(Value),
     NoOrder(Class),
     Hook(HookKind, Value, Value, Value, Value),
+    Suspended,
 }
 
 /// How one line is changed.
 #[derive(Clone, Copy)]
-enum Change {
+pub enum Change {
     /// It is left out, and the lines after it are numbered anew.
     LeftOut,
     /// It stands twice, and the lines after it are numbered anew.
@@ -30,6 +33,8 @@ enum Change {
     Swapped,
     Number(u32),
     Thread(u8),
+    /// It is of another thread, and all lines are numbered anew.
+    Moved(u8),
     At(u64),
     By(Path),
     Asks(LineOp),
@@ -38,10 +43,11 @@ enum Change {
 }
 
 /// A line that was changed, from 1, how, and what isn't so then.
-type Row = (usize, Change, Breaks);
+pub type Row = (usize, Change, Breaks);
 
 fn reply_anew(anew: &Anew) -> LineReply {
     LineReply::Of(match anew {
+        Anew::NoAttr => Reply::NoAttr,
         Anew::Done => Reply::Done,
         Anew::Made(object) => Reply::Made(*object, None),
         Anew::Value(value) => Reply::Value(*value),
@@ -49,6 +55,7 @@ fn reply_anew(anew: &Anew) -> LineReply {
         Anew::Hook(kind, callee, receiver, other, value) => {
             Reply::Hook(*kind, *callee, *receiver, *other, *value)
         }
+        Anew::Suspended => return LineReply::Suspended(1),
     })
 }
 
@@ -69,7 +76,7 @@ fn change_what(what: &mut What, change: &Change) {
 fn change_line(line: &mut Line, change: &Change) {
     match change {
         Change::Number(number) => line.number = *number,
-        Change::Thread(thread) => line.thread = *thread,
+        Change::Thread(thread) | Change::Moved(thread) => line.thread = *thread,
         Change::Says(local) => line.what = What::Local(*local),
         _ => change_what(&mut line.what, change),
     }
@@ -82,10 +89,9 @@ fn change_line_at(lines: &mut [Line], at: usize, change: &Change) {
 }
 
 /// The line again, with the reply of the data model, which goes on with it.
-fn line_again(plain: &mut Plain, line: &Line) -> Result<Line, Fail> {
+fn line_again(plain: &mut Plain, line: &Line) -> Result<Line, AllocError> {
     let what = match &line.what {
-        What::Did(_, _, LineOp::Of(op), _) => told(plain, op)?,
-        What::Did(_, _, _, _) => return Err("a section".into()),
+        What::Did(_, _, op, _) => told(plain, op)?,
         What::Local(local) => What::Local(*local),
     };
     Ok(Line {
@@ -101,7 +107,7 @@ fn add_line(
     plain: &mut Plain,
     line: &Line,
     is_doubled: bool,
-) -> Result<(), Fail> {
+) -> Result<(), AllocError> {
     lines.push(line_again(plain, line)?)?;
     if is_doubled {
         lines.push(line_again(plain, line)?)?;
@@ -116,7 +122,7 @@ fn lines_by(
     lines: &[Line],
     at: usize,
     is_doubled: bool,
-) -> Result<Vec<Line>, Fail> {
+) -> Result<Vec<Line>, AllocError> {
     let mut anew = Vec::new(alloc);
     for (i, line) in lines.iter().enumerate() {
         add_line(&mut anew, plain, line, is_doubled && i == at)?;
@@ -131,7 +137,7 @@ fn lines_anew(
     lines: &[Line],
     at: usize,
     is_doubled: bool,
-) -> Result<Vec<Line>, Fail> {
+) -> Result<Vec<Line>, AllocError> {
     let mut plain = Plain::new(alloc)?;
     lines_by(alloc, &mut plain, lines, at, is_doubled)
 }
@@ -148,9 +154,15 @@ fn swap_with_next(lines: &mut [Line], at: usize) {
     }
 }
 
+/// Numbers the lines of each thread from 1.
 fn number_anew(lines: &mut [Line]) {
+    let mut thread = MAIN_THREAD;
     let mut number = 0_u32;
     for line in lines {
+        if line.thread != thread {
+            thread = line.thread;
+            number = 0;
+        }
         number = number.wrapping_add(1);
         line.number = number;
     }
@@ -177,18 +189,10 @@ fn broken_by_change(
     let is_doubled = matches!(change, Change::Doubled);
     let mut changed = lines_anew(alloc, lines, at, is_doubled)?;
     change_lines(&mut changed, at, change);
-    if is_doubled || matches!(change, Change::LeftOut | Change::Swapped) {
+    if is_doubled || matches!(change, Change::LeftOut | Change::Swapped | Change::Moved(_)) {
         number_anew(&mut changed);
     }
     broken_by(alloc, script, &changed)
-}
-
-/// The run of a script that has `main` alone.
-fn run_of(alloc: Global, script: &Script) -> Result<Ran, Fail> {
-    if script.threads() > 0 || script.block(Block::Finally).is_some() {
-        return Err("the script has other blocks".into());
-    }
-    Ok(run_plain(alloc, script)?)
 }
 
 /// Changes one line of a run at a time.
@@ -202,7 +206,6 @@ fn try_lines<R: Abort>(
     assert_eq!(rt; broken_by(alloc, script, lines)?, Breaks::Nothing);
     for (i, (number, change, wanted)) in rows.iter().enumerate() {
         let broken = broken_by_change(alloc, script, lines, number.saturating_sub(1), change)?;
-        assert!(rt; broken != Breaks::Nothing, "row {i}, of line {number}");
         assert_eq!(rt; broken, *wanted, "row {i}, of line {number}");
     }
     Ok(())
@@ -216,13 +219,13 @@ fn try_script<R: Abort>(
     count: usize,
     rows: &[Row],
 ) -> Result<(), Fail> {
-    let ran = run_of(alloc, script)?;
+    let ran = run_plain(alloc, script)?;
     assert_eq!(rt; ran.lines.len(), count);
     try_lines(rt, alloc, script, ran.lines.items(), rows)
 }
 
 /// Runs the script of this text, whose lines are as many, and changes one line at a time.
-fn tries<R: Abort>(
+pub fn tries<R: Abort>(
     rt: &R,
     alloc: Global,
     text: &str,
@@ -237,15 +240,15 @@ fn class(n: u16) -> Class {
     Class::new(n).unwrap_or(Class::object())
 }
 
-fn name(n: u16) -> Name {
+pub fn name(n: u16) -> Name {
     Name::new(n).unwrap_or(Name::init())
 }
 
-fn object(n: u16) -> Result<Obj, Fail> {
+pub fn object(n: u16) -> Result<Obj, Fail> {
     Ok(Obj::new(n).ok_or("object")?)
 }
 
-fn asks(op: Op) -> Change {
+pub fn asks(op: Op) -> Change {
     Change::Asks(LineOp::Of(op))
 }
 

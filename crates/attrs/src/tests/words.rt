@@ -12,16 +12,18 @@ use std::test::Fail;
 const USAGE: &str = "usage: attrs run or plain or make SEED COUNT\n";
 
 /// Words, how the program ends, and what it writes.
-const COMMANDS: [(&[&str], Status, &str); 9] = [
+const COMMANDS: [(&[&str], Status, &str); 11] = [
     (&[], Status::Usage, USAGE),
     (&["run", "x"], Status::Usage, USAGE),
     (&["RUN"], Status::Usage, USAGE),
     (&["runs"], Status::Usage, USAGE),
-    (&["plain"], Status::Usage, USAGE),
+    (&["plain", "plain"], Status::Usage, USAGE),
+    (&["plai"], Status::Usage, USAGE),
     (&["make", "1", "1"], Status::Usage, USAGE),
     (&["check"], Status::Usage, USAGE),
     (&[""], Status::Usage, USAGE),
     (&["run"], Status::Good, TRANSCRIPT),
+    (&["plain"], Status::Good, TRANSCRIPT),
 ];
 
 #[test]

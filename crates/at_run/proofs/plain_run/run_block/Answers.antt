@@ -1,7 +1,7 @@
 use Rattle.std.proofs.Common.{◌≡◌, ◌∙◌, sym, ap, subst, ℕ, ◌+◌, arith, List, [], ◌∷◌, ◌++◌, length, length-append, append-nil, append_assoc, refl}
 use Rattle.at_line.specs.declared.line.Line.{Line}
 use Rattle.at_script.specs.Parts.{ScriptParts}
-use Rattle.at_thread.specs.Execution.{ThreadState, next_of, start}
+use Rattle.at_thread.specs.Execution.{ThreadState, next_of}
 use Rattle.at_thread.specs.Threads.{state_of}
 use Rattle.at_thread.proofs.Steps.{Few}
 use Rattle.at_thread.proofs.Leading.{start_few, step_onward}

@@ -1,7 +1,6 @@
-use Rattle.std.proofs.Common.{◌≡◌, ◌∙◌, sym, ap, Option, Some, None, List, vec_capacity}
+use Rattle.std.proofs.Common.{◌≡◌, ◌∙◌, sym, ap, Some, None, vec_capacity}
 use Rattle.std.specs.Option.{option_copied}
 use Rattle.std.proofs.lemmas.Result.{IfOk-weaker}
-use Rattle.at_script.specs.declared.stmt.Stmt.{Stmt}
 use Rattle.at_thread.specs.Threads.{state_of}
 use Rattle.at_run.proofs.Blocks.{without_finally, with_finally}
 use Rattle.at_run.proofs.plain_run.run_finally.Goals as goal

@@ -1,9 +1,8 @@
-use Rattle.std.proofs.Common.{◌≡◌, ◌∙◌, sym, ap, subst, refl, ℕ, ◌+◌, ◌*◌, ◌≤◌, arith, List, [], length, replicate, None, Option, vec_capacity}
+use Rattle.std.proofs.Common.{◌≡◌, ◌∙◌, sym, ap, subst, ℕ, ◌+◌, ◌*◌, arith, List, length, replicate, None, vec_capacity}
 use Rattle.std.proofs.lemmas.List.{length-replicate}
-use Rattle.at_value.specs.declared.value.Value.{Value}
 use Rattle.at_line.specs.Types.{Line}
 use Rattle.at_script.specs.declared.stmt.Stmt.{Stmt}
-use Rattle.at_thread.specs.Execution.{ThreadState, Variables, start}
+use Rattle.at_thread.specs.Execution.{Variables, start}
 use Rattle.at_thread.specs.Runs.{unbound}
 use Rattle.at_thread.specs.Threads.{state_of}
 use Rattle.at_run.specs.Blocks.{Stands, RunsBlock, most_of}
