@@ -1,5 +1,5 @@
 -- How each answer of a call comes about, and what is written with it.
-use Rattle.std.specs.Prelude.{ℕ, ◌≡◌, ◌+◌, ◌<◌, ◌⊎◌, List, ◌++◌, length, Bool, Option, Some, None, IsTrue, codes, decimal}
+use Rattle.std.specs.Prelude.{ℕ, ◌≡◌, ◌+◌, ◌<◌, ◌⊎◌, List, ◌++◌, length, Bool, Option, Some, IsTrue, codes, decimal}
 use Rattle.std.specs.Io.KnownBytes.{append_known}
 use Rattle.at_source.specs.Faults.{Rose}
 use Rattle.at_source.specs.Whole.{GaveAll, GaveFirst, GaveFewer, GrewByPrefix}

@@ -115,9 +115,10 @@ fn lines_of_blocks(rt: HostRuntime) -> Result<(), Fail> {
     tries(&rt, rt.alloc(), SCRIPT, COUNT, &ORDER)
 }
 
+const NINE: Change = Change::Replies(Anew::Value(Value::Int(9)));
+
 /// Replies, of which the second object is one.
 fn replies(b: Obj) -> [Row; 10] {
-    let nine = Change::Replies(Anew::Value(Value::Int(9)));
     [
         (2, Change::Replies(Anew::Made(b)), Breaks::Both),
         // A begin that is refused opens no section.
@@ -125,13 +126,13 @@ fn replies(b: Obj) -> [Row; 10] {
         // A write that has no place any more.
         (6, Change::Replies(Anew::NoAttr), Breaks::Law),
         (7, Change::Replies(Anew::Done), Breaks::Both),
-        (8, nine, Breaks::Both),
-        (12, nine, Breaks::Law),
+        (8, NINE, Breaks::Both),
+        (12, NINE, Breaks::Law),
         (12, Change::Replies(Anew::NoAttr), Breaks::Law),
         // Nobody disturbs a section of `finally`.
         (18, Change::Replies(Anew::Suspended), Breaks::Law),
         // The next line uses the value.
-        (19, nine, Breaks::Both),
+        (19, NINE, Breaks::Both),
         (16, Change::By(Path::Fast), Breaks::Law),
     ]
 }
@@ -177,16 +178,17 @@ fn local_lines_of_blocks(rt: HostRuntime) -> Result<(), Fail> {
     tries(&rt, rt.alloc(), SCRIPT, COUNT, &LOCALS)
 }
 
+const TWO: Value = Value::Int(2);
+
 /// Other operations on both objects. The names y, f, x and z have the numbers from 5 on.
 fn operations(a: Obj, b: Obj) -> [Row; 6] {
-    let two = Value::Int(2);
     [
         (5, Change::Asks(LineOp::Begin(b, None)), Breaks::Run),
-        (6, asks(Op::Set(a, name(7), two)), Breaks::Both),
+        (6, asks(Op::Set(a, name(7), TWO)), Breaks::Both),
         (12, asks(Op::Get(b, name(5))), Breaks::Both),
-        (14, asks(Op::Set(b, name(7), two)), Breaks::Run),
+        (14, asks(Op::Set(b, name(7), TWO)), Breaks::Run),
         (17, asks(Op::Get(a, name(7))), Breaks::Both),
-        (20, asks(Op::Set(a, name(8), two)), Breaks::Run),
+        (20, asks(Op::Set(a, name(8), TWO)), Breaks::Run),
     ]
 }
 

@@ -1,7 +1,5 @@
 use Rattle.std.proofs.Common.{ap, sym, subst, arith, List, ℕ, length, Err}
 use Rattle.at_source.specs.Whole.{GaveAll}
-use Rattle.at_run.specs.PlainRun.{IsPlainRun}
-use Rattle.at_run.specs.LegalRun.{IsLegalRun}
 use Rattle.attrs.specs.Answers.{source_change, IsPlainAndLegal}
 use Rattle.attrs.proofs.Answered.{answered, plain_of, legal_of}
 use Rattle.attrs.proofs.command.plain_text.Goals as goal
