@@ -25,9 +25,10 @@ enum Turn {
     Says(What),
 }
 
-/// Runs a script from the opening world on, each path `Locked`: `main`, then each thread in turn, then `finally`. Sections
-/// are kept, and checkpoints do nothing. The room for all lines, twice the budget and one more for each block, and for the
-/// variables is taken before the first statement; after it only an operation of the data model may take memory.
+/// Runs a script from the opening world on, each path `Locked`: `main`, then each thread in turn, then `finally`.
+/// Sections are kept, and checkpoints do nothing. The room for all lines, twice the budget and one more for each block,
+/// and for the variables is taken before the first statement; after it only an operation of the data model may take
+/// memory.
 pub fn run_plain(alloc: Global, script: &Script) -> Result<Ran, AllocError>
     ensures plain { IfOk result (λ ran. IsPlainRun script.now ran.lines ran.last) }
 
