@@ -1,7 +1,7 @@
 """How a script is executed, one thread after another, and its transcript. Written from docs/SCRIPTS.md and
 docs/TRANSCRIPTS.md alone."""
 
-from model import NONE, Value, World, step
+from model import NONE, OPERATIONS, Value, World, step
 
 MOST_CALLS = 16
 
@@ -218,8 +218,8 @@ class Thread:
         return NONE
 
     def section(self, word, objects, reply):
-        named = "".join(f" #{o}" for o in objects)
-        self.say(f"{self.run.world.places} locked {word}{named} = {reply}")
+        operation = " ".join([word] + [f"#{o}" for o in objects])
+        self.say(f"{self.run.world.places} locked {operation} = {reply}")
 
     def checkpoint(self, word, operands, call):
         return self.it
@@ -279,48 +279,31 @@ class Run:
             return "prop:" + ",".join(part or "-" for part in value.what)
         return f"{value.kind}:{value.what}" if value.kind in ("static", "classm") else str(value.what)
 
-    def named(self, classes):
-        return "".join(f" {self.script.classes[c]}" for c in classes)
+    def classes(self, numbers):
+        return [self.script.classes[c] for c in numbers]
 
     def operation(self, word, operands):
-        classes = self.script.classes
-        if word in ("class", "bases"):
-            c, bases = operands
-            return f"{word} {classes[c]}{self.named(bases)}"
-        if word in ("put", "cut", "cget"):
-            c, name, *rest = operands
-            subject = f"{classes[c]}.{name}"
-        elif word in ("new", "mro"):
-            return f"{word} {classes[operands[0]]}"
-        elif word == "turn":
-            o, c = operands
-            return f"turn #{o} {classes[c]}"
-        elif word == "super":
-            after, o, name = operands
-            return f"super {classes[after]} #{o}.{name}"
-        elif word == "share":
-            o, other = operands
-            return f"share #{o} #{other}"
-        elif word == "classof":
-            return f"classof #{operands[0]}"
-        else:
-            o, name, *rest = operands
-            subject, rest = f"#{o}.{name}", rest
-        return " ".join([word, subject] + [self.value(value) for value in operands[2:]])
+        words = [word]
+        for kind, operand in zip(OPERATIONS[word][1:], operands):
+            if kind == "name":
+                words[-1] += f".{operand}"
+            elif kind == "object":
+                words.append(f"#{operand}")
+            elif kind == "value":
+                words.append(self.value(operand))
+            else:
+                words += self.classes(operand if kind == "bases" else [operand])
+        return " ".join(words)
 
     def reply(self, reply):
         if reply.word == "made":
             o, init = reply.carries
-            return f"made #{o}" + ("" if init is None else f" init {self.value(init)}")
-        if reply.word == "method":
-            function, receiver = reply.carries
-            return f"method {function} {self.value(receiver)}"
-        if reply.word == "hook":
-            kind, *values = reply.carries
-            return " ".join(["hook", kind] + [self.value(value) for value in values])
+            return f"made #{o}" if init is None else f"made #{o} init {self.value(init)}"
         if reply.word in ("order", "noorder"):
-            return reply.word + self.named(reply.carries)
-        return " ".join([reply.word] + [self.value(value) for value in reply.carries])
+            carried = self.classes(reply.carries)
+        else:
+            carried = [self.value(part) if isinstance(part, Value) else part for part in reply.carries]
+        return " ".join([reply.word, *carried])
 
     def own(self, names):
         return [f".{name} {self.value(names[name])}" for name in sorted(names)]
@@ -328,7 +311,8 @@ class Run:
     def last(self):
         lines = []
         for c in sorted(self.world.bases):
-            lines.append(f"class {self.script.classes[c]} ={self.named(self.world.order(c))}")
+            order = self.classes(self.world.order(c))
+            lines.append(" ".join(["class", self.script.classes[c], "=", *order]))
             lines += self.own(self.world.own[c])
         for o, c in enumerate(self.world.classes):
             lines.append(f"object #{o} {self.script.classes[c]}")

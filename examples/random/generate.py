@@ -12,7 +12,7 @@ HOOK_NAMES = ["__get__", "__set__", "__delete__", "__getattr__", "__init__"]
 OTHER_NAMES = ["__len__", "__iter__"]
 # How often each statement stands.
 WEIGHTS = {
-    "class": 3, "bases": 3, "put": 14, "cut": 3, "new": 10, "set": 14, "del": 6, "get": 16, "turn": 3, "share": 3,
+    "class": 3, "bases": 4, "put": 14, "cut": 3, "new": 10, "set": 14, "del": 6, "get": 16, "turn": 3, "share": 3,
     "super": 5, "special": 4, "classof": 2, "mro": 2, "call": 10, "callsuper": 4, "let": 4, "return": 4, "begin": 3,
     "checkpoint": 2,
 }  # fmt: skip
@@ -71,7 +71,7 @@ class Writer:
         if draw < 0.7:
             return self.variable()
         if draw < 0.8:
-            return self.random.choice(["self", "arg", "other", "it"] if in_function else ["it", "none", "self"])
+            return self.random.choice(["self", "arg", "other", "it"] if in_function else ["it", "it", "none"])
         if draw < 0.88:
             return self.class_()
         return self.random.choice(["none", '"x"', '"text"', "2147483647", "-2147483648"])

@@ -259,8 +259,7 @@ class World:
         return DONE
 
 
-# What an operation of each kind names, in the order of its operands; a `new_class` names its own class too, but that one
-# isn't to be made before.
+# What each operation does, and what its operands are. The class that `class` makes is `new`: it isn't made before.
 OPERATIONS = {
     "class": (World.new_class, "new", "bases"),
     "bases": (World.set_bases, "class", "bases"),
