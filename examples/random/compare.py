@@ -2,8 +2,8 @@
 
 usage: python3 examples/random/compare.py FIRST COUNT [PROGRAM [WORD]]
 
-The scripts are those of COUNT seeds from FIRST on. PROGRAM is the proved one where it isn't given, and WORD is `plain`. Each
-script for which the program writes another text is kept in the folder of temporary files.
+The scripts are those of COUNT seeds from FIRST on. PROGRAM is the proved one where it isn't given, and WORD is `plain`.
+Each script for which the program writes another text is kept in the folder of temporary files.
 """
 
 import pathlib

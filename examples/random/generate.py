@@ -1,5 +1,5 @@
-"""Random scripts of all statements: the script of a seed. Each line says something that the reader takes; most operations find
-what they name, and some don't."""
+"""Random scripts of all statements: the script of a seed. The reader takes each; most operations find what they name,
+and some don't."""
 
 import random
 import sys
@@ -15,7 +15,7 @@ WEIGHTS = {
     "class": 3, "bases": 4, "put": 14, "cut": 3, "new": 10, "set": 14, "del": 6, "get": 16, "turn": 3, "share": 3,
     "super": 5, "special": 4, "classof": 2, "mro": 2, "call": 10, "callsuper": 4, "let": 4, "return": 4, "begin": 3,
     "checkpoint": 2,
-}  # fmt: skip
+}
 
 
 class Writer:
@@ -51,7 +51,8 @@ class Writer:
         if self.is_so(class_chance):
             return self.class_()
         if self.is_so(0.5 if in_function else 0.06):
-            return self.random.choice(["self", "self", "self", "other", "arg", "it"] if in_function else ["it", "it", "self"])
+            given = ["self", "self", "self", "other", "arg", "it"] if in_function else ["it", "it", "self"]
+            return self.random.choice(given)
         return self.variable()
 
     def property(self):

@@ -1,6 +1,7 @@
 """The data model: worlds, and what each operation replies and does.
 
-Written from docs/DATA_MODEL.md and docs/DECISIONS.md alone, and in the plainest way: an operation looks everything up anew.
+Written from docs/DATA_MODEL.md and docs/DECISIONS.md alone, and in the plainest way: an operation looks everything up
+anew.
 """
 
 from typing import NamedTuple
@@ -10,8 +11,8 @@ MOST_OBJECTS = 4096
 
 
 class Value(NamedTuple):
-    """A value. `what` is a number for `int`, `class` and `obj`, a text for `text`, `func`, `static` and `classm`, and for
-    `prop` the getter, setter and deleter, each the name of a function or None."""
+    """A value. `what` is a number for `int`, `class` and `obj`, a text for `text`, `func`, `static` and `classm`, and
+    for `prop` the getter, setter and deleter, each the name of a function or None."""
 
     kind: str
     what: object = None
@@ -103,7 +104,9 @@ class World:
             return Reply("noattr")
         if found.kind == "prop":
             function = found.what[0]
-            return hook("getter", Value("func", function), Value("obj", o)) if function else Reply("nogetter")
+            if function is None:
+                return Reply("nogetter")
+            return hook("getter", Value("func", function), Value("obj", o))
         if found.kind == "func":
             return method(found.what, Value("obj", o))
         if found.kind == "static":
@@ -162,7 +165,9 @@ class World:
         _, setter, deleter = self.special_names(found)
         if found is not None and found.kind == "prop":
             function = found.what[1]
-            return hook("setter", Value("func", function), Value("obj", o), NONE, value) if function else Reply("nosetter")
+            if function is None:
+                return Reply("nosetter")
+            return hook("setter", Value("func", function), Value("obj", o), NONE, value)
         if setter is not None:
             return hook("dset", setter, found, Value("obj", o), value)
         if deleter is not None:
@@ -175,7 +180,9 @@ class World:
         _, setter, deleter = self.special_names(found)
         if found is not None and found.kind == "prop":
             function = found.what[2]
-            return hook("deleter", Value("func", function), Value("obj", o)) if function else Reply("nodeleter")
+            if function is None:
+                return Reply("nodeleter")
+            return hook("deleter", Value("func", function), Value("obj", o))
         if deleter is not None:
             return hook("ddel", deleter, found, Value("obj", o))
         if setter is not None:

@@ -4,10 +4,9 @@ from model import NONE, Value
 
 RESERVED = ("self", "arg", "other", "it")
 BLOCKS = ("func", "main", "thread", "finally")
-# What a statement's words are after the first: a class, a variable, an attribute R.x or C.x, a receiver, a value.
+# The words of a statement after its first: C a class, A a variable to be bound, . an attribute of what stands before it,
+# R a receiver, V a value. `class` and `bases` have a class and then others.
 OPERANDS = {
-    "class": "C*",
-    "bases": "C*",
     "put": ".V",
     "cut": ".",
     "new": "ACV",
@@ -31,8 +30,8 @@ OPERANDS = {
 
 
 class Script:
-    """The blocks of a script, each a list of statements: a word and its operands. An operand is a class's number, the name
-    of a variable or an attribute, or what is evaluated: a value, a word of RESERVED, or ("variable", NAME)."""
+    """The blocks of a script, each a list of statements: a word and its operands. An operand is a class's number, the
+    name of a variable or an attribute, or what is evaluated: a value, a word of RESERVED, or ("variable", NAME)."""
 
     def __init__(self, text):
         self.text = text
