@@ -17,6 +17,9 @@ WEIGHTS = {
     "checkpoint": 2,
 }
 
+# After these `it` may have a value.
+LEARNING = ("new", "get", "super", "special", "classof", "call", "callsuper")
+
 
 class Writer:
     """Writes one script."""
@@ -111,6 +114,11 @@ class Writer:
         left_out = without if in_function else (*without, "return")
         words = [word for word in WEIGHTS if word not in left_out]
         word = self.random.choices(words, [WEIGHTS[word] for word in words])[0]
+        self.write(word, in_function)
+        if word in LEARNING and self.is_so(0.25):
+            self.line("set", f"{self.variable()}.{self.name(0)}", "it")
+
+    def write(self, word, in_function):
         if word == "class":
             self.line(word, self.random.choice(self.classes), *self.bases())
         elif word == "bases":
@@ -144,7 +152,7 @@ class Writer:
         elif word == "let":
             self.line(word, self.variable(), self.value(in_function))
         elif word == "return":
-            self.line(word, self.value(in_function))
+            self.line(word, self.random.choice(VARIABLES) if self.is_so(0.3) else self.value(in_function))
         elif word == "begin":
             self.section(in_function)
         else:
@@ -155,6 +163,8 @@ class Writer:
     def block(self, most, in_function=False):
         for _ in range(self.random.randint(0, most)):
             self.statement(in_function)
+        if in_function and self.is_so(0.5):
+            self.write("return", in_function)
         self.line("end")
 
     def first_classes(self):
