@@ -155,6 +155,7 @@ impl<'a> Tables<'a> {
     }
 
     /// What the identifier is numbered as.
+    #[inline(always)]
     pub fn meaning(&self, name: &str) -> Meaning
         ensures { result ≡ meaning_in (texts_in self.now) name.now }
     {
@@ -183,6 +184,7 @@ impl<'a> Tables<'a> {
     }
 
     /// The number of a variable, of which this is the meaning.
+    #[inline(always)]
     pub fn variable(&mut self, name: &'a str, meaning: Meaning) -> Result<u16, LineFault>
         requires { meaning ≡ meaning_in (texts_in self.old) name.now }
         ensures told { let found = numbered_in limits.most_variables (texts_in self.old).vars name.now in
@@ -233,6 +235,7 @@ impl<'a> Tables<'a> {
     }
 
     /// The number of the name of an attribute or of a text, of which this is the meaning.
+    #[inline(always)]
     pub fn name(&mut self, text: &'a str, meaning: Meaning) -> Result<Name, LineFault>
         requires { meaning ≡ meaning_in (texts_in self.old) text.now }
         ensures told { let found = numbered_in widths.names (texts_in self.old).names text.now in
