@@ -87,6 +87,7 @@ pub fn class_and_bases(mut words: Words<'_>) -> Option<(&str, Words<'_>)>
 }
 
 /// An attribute.
+#[inline(always)]
 pub fn attribute(words: Words<'_>) -> Option<(&str, &str)>
     ensures { option_map both_now result ≡ shapes.attribute (words_left words.entry) }
 {

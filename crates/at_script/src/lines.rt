@@ -54,11 +54,19 @@ pub fn first_line(text: &[u8]) -> (&[u8], &[u8])
     }
 }
 
+/// Where the byte first stands in a word, which is short.
+#[inline(always)]
+fn place_in_word(byte: u8, word: &[u8]) -> Option<usize>
+    ensures { result ≡ position (λ b. b == byte) word.now }
+{
+    word.iter().position(|other| *other == byte)
+}
+
 /// What stands before the first of these bytes and what stands after it, where there is one.
 pub fn halves(byte: u8, word: &[u8]) -> Option<(&[u8], &[u8])>
     ensures { option_map both_now result ≡ halves byte word.now }
 {
-    match place_of(byte, word) {
+    match place_in_word(byte, word) {
         Some(i) => Some((&word[..i], &word[i + 1..])),
         None => None,
     }
