@@ -192,8 +192,34 @@ are_too_many t = nat_lt widths.names (length t.names) || nat_lt limits.most_vari
 
 abbrev pub begins_thread : Option keyword.Keyword → Bool
 begins_thread None = false
+begins_thread (Some keywords.Attrs) = false
+begins_thread (Some keywords.Budget) = false
+begins_thread (Some keywords.Func) = false
+begins_thread (Some keywords.Main) = false
 begins_thread (Some keywords.Thread) = true
-begins_thread (Some _) = false
+begins_thread (Some keywords.Finally) = false
+begins_thread (Some keywords.End) = false
+begins_thread (Some keywords.Class) = false
+begins_thread (Some keywords.Bases) = false
+begins_thread (Some keywords.Put) = false
+begins_thread (Some keywords.Cut) = false
+begins_thread (Some keywords.New) = false
+begins_thread (Some keywords.Set) = false
+begins_thread (Some keywords.Del) = false
+begins_thread (Some keywords.Get) = false
+begins_thread (Some keywords.Turn) = false
+begins_thread (Some keywords.Share) = false
+begins_thread (Some keywords.Super) = false
+begins_thread (Some keywords.Special) = false
+begins_thread (Some keywords.ClassOf) = false
+begins_thread (Some keywords.Mro) = false
+begins_thread (Some keywords.Call) = false
+begins_thread (Some keywords.CallSuper) = false
+begins_thread (Some keywords.Let) = false
+begins_thread (Some keywords.Return) = false
+begins_thread (Some keywords.Begin) = false
+begins_thread (Some keywords.Finish) = false
+begins_thread (Some keywords.Checkpoint) = false
 
 -- `limit`: the line brings the bytes of the text, its newline with them, or the number of classes, functions, names,
 -- variables or threads above what a script may have

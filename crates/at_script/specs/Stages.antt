@@ -52,22 +52,96 @@ may_stand_in kind section keywords.Checkpoint = not section
 
 -- after the header, before anything else
 abbrev pub may_open : keyword.Keyword → Bool
+may_open keywords.Attrs = false
 may_open keywords.Budget = true
 may_open keywords.Func = true
 may_open keywords.Main = true
-may_open _ = false
+may_open keywords.Thread = false
+may_open keywords.Finally = false
+may_open keywords.End = false
+may_open keywords.Class = false
+may_open keywords.Bases = false
+may_open keywords.Put = false
+may_open keywords.Cut = false
+may_open keywords.New = false
+may_open keywords.Set = false
+may_open keywords.Del = false
+may_open keywords.Get = false
+may_open keywords.Turn = false
+may_open keywords.Share = false
+may_open keywords.Super = false
+may_open keywords.Special = false
+may_open keywords.ClassOf = false
+may_open keywords.Mro = false
+may_open keywords.Call = false
+may_open keywords.CallSuper = false
+may_open keywords.Let = false
+may_open keywords.Return = false
+may_open keywords.Begin = false
+may_open keywords.Finish = false
+may_open keywords.Checkpoint = false
 
 -- after the budget or a function
 abbrev pub may_follow_function : keyword.Keyword → Bool
+may_follow_function keywords.Attrs = false
+may_follow_function keywords.Budget = false
 may_follow_function keywords.Func = true
 may_follow_function keywords.Main = true
-may_follow_function _ = false
+may_follow_function keywords.Thread = false
+may_follow_function keywords.Finally = false
+may_follow_function keywords.End = false
+may_follow_function keywords.Class = false
+may_follow_function keywords.Bases = false
+may_follow_function keywords.Put = false
+may_follow_function keywords.Cut = false
+may_follow_function keywords.New = false
+may_follow_function keywords.Set = false
+may_follow_function keywords.Del = false
+may_follow_function keywords.Get = false
+may_follow_function keywords.Turn = false
+may_follow_function keywords.Share = false
+may_follow_function keywords.Super = false
+may_follow_function keywords.Special = false
+may_follow_function keywords.ClassOf = false
+may_follow_function keywords.Mro = false
+may_follow_function keywords.Call = false
+may_follow_function keywords.CallSuper = false
+may_follow_function keywords.Let = false
+may_follow_function keywords.Return = false
+may_follow_function keywords.Begin = false
+may_follow_function keywords.Finish = false
+may_follow_function keywords.Checkpoint = false
 
 -- after `main` or a thread
 abbrev pub may_follow_main : keyword.Keyword → Bool
+may_follow_main keywords.Attrs = false
+may_follow_main keywords.Budget = false
+may_follow_main keywords.Func = false
+may_follow_main keywords.Main = false
 may_follow_main keywords.Thread = true
 may_follow_main keywords.Finally = true
-may_follow_main _ = false
+may_follow_main keywords.End = false
+may_follow_main keywords.Class = false
+may_follow_main keywords.Bases = false
+may_follow_main keywords.Put = false
+may_follow_main keywords.Cut = false
+may_follow_main keywords.New = false
+may_follow_main keywords.Set = false
+may_follow_main keywords.Del = false
+may_follow_main keywords.Get = false
+may_follow_main keywords.Turn = false
+may_follow_main keywords.Share = false
+may_follow_main keywords.Super = false
+may_follow_main keywords.Special = false
+may_follow_main keywords.ClassOf = false
+may_follow_main keywords.Mro = false
+may_follow_main keywords.Call = false
+may_follow_main keywords.CallSuper = false
+may_follow_main keywords.Let = false
+may_follow_main keywords.Return = false
+may_follow_main keywords.Begin = false
+may_follow_main keywords.Finish = false
+may_follow_main keywords.Checkpoint = false
 
 -- whether a line with this keyword may stand there; the header is told otherwise
 abbrev pub may_stand : stage.Stage → keyword.Keyword → Bool

@@ -12,6 +12,7 @@ use crate::word::{identifier_of, is_identifier};
 use at_value::Bases;
 
 /// `C.x` or `R.x`: what stands before the dot, and the name of the attribute.
+#[inline(always)]
 fn attribute_of(word: &[u8]) -> Option<(&str, &str)>
     ensures { option_map both_now result ≡ shapes.attribute_of word.now }
 {
@@ -86,6 +87,7 @@ pub fn class_and_bases(mut words: Words<'_>) -> Option<(&str, Words<'_>)>
 }
 
 /// An attribute.
+#[inline(always)]
 pub fn attribute(words: Words<'_>) -> Option<(&str, &str)>
     ensures { option_map both_now result ≡ shapes.attribute (words_left words.entry) }
 {

@@ -1,5 +1,5 @@
 //! The lines of a text, the words of a line, and the two sides of a byte in a word.
-ghost use Rattle.std.specs.Prelude.{◌≡◌, ◌==◌, ◌+◌, ◌∷◌, ◌<◌, length, position};
+ghost use Rattle.std.specs.Prelude.{◌≡◌, ◌==◌, ◌+◌, ◌∷◌, ◌++◌, ◌<◌, length, position};
 ghost use Rattle.std.specs.Option.{option_map, option_copied};
 ghost use Rattle.std.specs.Iterator.{YieldsFirstRef, item_count};
 ghost use Rattle.std.specs.List.{list_all, slice_split};
@@ -15,14 +15,19 @@ fn is_allowed(byte: u8) -> bool
     (b' ' <= byte && byte <= b'~') || byte == b'\n' || byte == b'\t' || byte == b'\r'
 }
 
-/// Whether a script may have these bytes.
-pub fn are_allowed(line: &[u8]) -> bool
-    ensures { result ≡ list_all is_allowed line.now }
+/// Whether a script may have these bytes. Each is looked at, so that many are tried at a time.
+pub fn are_allowed(bytes: &[u8]) -> bool
+    ensures { result ≡ list_all is_allowed bytes.now }
 {
-    line.iter().all(|byte| is_allowed(*byte))
+    let mut allowed = true;
+    for byte in bytes {
+        allowed &= is_allowed(*byte);
+    }
+    allowed
 }
 
-fn is_blank(byte: u8) -> bool
+/// Whether the byte stands between words.
+pub fn is_blank(byte: u8) -> bool
     ensures { result ≡ is_blank byte }
 {
     byte == b' ' || byte == b'\n' || byte == b'\t' || byte == b'\r'
@@ -38,6 +43,7 @@ fn place_of(byte: u8, bytes: &[u8]) -> Option<usize>
 /// The first line with its newline, and the lines after it.
 pub fn first_line(text: &[u8]) -> (&[u8], &[u8])
     requires { 0 < length text.now }
+    ensures whole { text.now ≡ result.0.now ++ result.1.now }
     ensures lines { lines_of text.now ≡ result.0.now ∷ lines_of result.1.now }
     ensures more { 0 < length result.0.now }
     ensures same { length result.0.now + length result.1.now ≡ length text.now }
@@ -48,11 +54,19 @@ pub fn first_line(text: &[u8]) -> (&[u8], &[u8])
     }
 }
 
+/// Where the byte first stands in a word, which is short.
+#[inline(always)]
+fn place_in_word(byte: u8, word: &[u8]) -> Option<usize>
+    ensures { result ≡ position (λ b. b == byte) word.now }
+{
+    word.iter().position(|other| *other == byte)
+}
+
 /// What stands before the first of these bytes and what stands after it, where there is one.
 pub fn halves(byte: u8, word: &[u8]) -> Option<(&[u8], &[u8])>
     ensures { option_map both_now result ≡ halves byte word.now }
 {
-    match place_of(byte, word) {
+    match place_in_word(byte, word) {
         Some(i) => Some((&word[..i], &word[i + 1..])),
         None => None,
     }

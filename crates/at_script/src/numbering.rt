@@ -1,17 +1,17 @@
 //! How texts are numbered.
-ghost use Rattle.std.specs.Prelude.{◌≡◌, ◌<◌, ◌∷◌, ◌++◌, [], length, Some, None, IfOk};
+ghost use Rattle.std.specs.Prelude.{◌≡◌, ◌<◌, ◌∷◌, ◌++◌, [], length, Some, None, IfOk, IsTrue};
 ghost use Rattle.std.specs.Option.{option_copied};
 ghost use Rattle.at_value.specs.Widths as widths;
 ghost use Rattle.at_value.specs.Numbers.{special_names};
 ghost use Rattle.at_name.specs.Texts.{place_of};
 ghost use Rattle.at_script.specs.Limits as limits;
 ghost use Rattle.at_script.specs.Lines.{lines_of, words_in};
-ghost use Rattle.at_script.specs.Texts.{with_text, declared_name, texts_of};
+ghost use Rattle.at_script.specs.Texts.{Texts, with_text, declared_name, texts_of};
 ghost use Rattle.at_script.specs.Views.{words_left};
 ghost use Rattle.at_script.specs.Reading.{texts_in, meaning_in, no_texts, with_declared, with_all_declared, numbered_in, is_below, IfTold};
 
 use crate::fault::{Cause, LineFault};
-use crate::lines::{Words, first_line};
+use crate::lines::{Words, first_line, is_blank};
 use crate::meaning::{Meaning, NO_MEANING, class_number, func_number};
 use crate::script::VARS_MOST;
 use crate::tables::Tables;
@@ -26,6 +26,16 @@ fn declared_name(mut words: Words<'_>) -> Option<&str>
 {
     let name = identifier_of(words.next()?)?;
     if is_free(name) { Some(name) } else { None }
+}
+
+/// Whether the first byte of a line shows that the line declares nothing: no word that declares begins with it.
+fn declares_nothing(line: &[u8]) -> bool
+    ensures { IsTrue result → (t : Texts) → with_declared t (words_in line.now) ≡ t }
+{
+    match line.first() {
+        Some(byte) => !is_blank(*byte) && *byte != b'c' && *byte != b'f',
+        None => false,
+    }
 }
 
 impl<'a> Tables<'a> {
@@ -92,6 +102,9 @@ impl<'a> Tables<'a> {
     fn declare_line(&mut self, line: &'a [u8]) -> Result<(), AllocError>
         ensures { IfOk result (λ _. texts_in self.new ≡ with_declared (texts_in self.old) (words_in line.now)) }
     {
+        if declares_nothing(line) {
+            return Ok(());
+        }
         let mut words = Words::new(line);
         let Some(word) = words.next() else {
             return Ok(());
@@ -142,6 +155,7 @@ impl<'a> Tables<'a> {
     }
 
     /// What the identifier is numbered as.
+    #[inline(always)]
     pub fn meaning(&self, name: &str) -> Meaning
         ensures { result ≡ meaning_in (texts_in self.now) name.now }
     {
@@ -170,6 +184,7 @@ impl<'a> Tables<'a> {
     }
 
     /// The number of a variable, of which this is the meaning.
+    #[inline(always)]
     pub fn variable(&mut self, name: &'a str, meaning: Meaning) -> Result<u16, LineFault>
         requires { meaning ≡ meaning_in (texts_in self.old) name.now }
         ensures told { let found = numbered_in limits.most_variables (texts_in self.old).vars name.now in
@@ -220,6 +235,7 @@ impl<'a> Tables<'a> {
     }
 
     /// The number of the name of an attribute or of a text, of which this is the meaning.
+    #[inline(always)]
     pub fn name(&mut self, text: &'a str, meaning: Meaning) -> Result<Name, LineFault>
         requires { meaning ≡ meaning_in (texts_in self.old) text.now }
         ensures told { let found = numbered_in widths.names (texts_in self.old).names text.now in

@@ -1,9 +1,10 @@
 //! The reader of scripts.
-ghost use Rattle.std.specs.Prelude.{◌≡◌, ◌<◌, ◌+◌, ◌^◌, ◌≤◌, ◌∷◌, ◌++◌, [], length, map, codes, string_bytes, Ok, Err, IfOk, IfErr, OnOk, OnErr};
+ghost use Rattle.std.specs.Prelude.{◌≡◌, ◌<◌, ◌+◌, ◌^◌, ◌≤◌, ◌∷◌, ◌++◌, [], length, map, codes, string_bytes, Ok, Err, IfOk, IfErr, OnOk, OnErr, IsTrue};
+ghost use Rattle.std.specs.List.{list_all};
 ghost use Rattle.at_script.specs.declared.fault.LineFault.TheVariants as line_faults;
 ghost use Rattle.at_value.specs.Widths as widths;
 ghost use Rattle.at_script.specs.Limits as limits;
-ghost use Rattle.at_script.specs.Lines.{lines_of, words_in, begins_with_hash};
+ghost use Rattle.at_script.specs.Lines.{lines_of, is_allowed, words_in, begins_with_hash};
 ghost use Rattle.at_script.specs.Meanings.{now_of};
 ghost use Rattle.at_script.specs.Words.{is_budget};
 ghost use Rattle.at_script.specs.Pieces.{two_parts};
@@ -135,11 +136,12 @@ impl<'a> Reader<'a> {
         ensures { IfToldRead result (left_read result (state_of self.new) ≡
             reading.lines_read 1 (state_of self.old) (lines_of text.now)) }
     {
+        let allowed = are_allowed(text);
         let mut rest = text;
         let mut number = 1;
         while !rest.is_empty() {
             let (line, after) = first_line(rest);
-            if let Err(fault) = self.read_line(line) {
+            if let Err(fault) = self.read_line(line, allowed) {
                 return Err(fault.at(number));
             }
             number += 1;
@@ -154,15 +156,16 @@ impl<'a> Reader<'a> {
         }
     }
 
-    /// Reads the next line, with the newline that ends it.
-    fn read_line(&mut self, line: &'a [u8]) -> Result<(), LineFault>
-        requires { self.old.bytes + length line.now < 2 ^ 64 }
+    /// Reads the next line, with the newline that ends it. Where its bytes are known to be allowed, they aren't tried.
+    fn read_line(&mut self, line: &'a [u8], allowed: bool) -> Result<(), LineFault>
+        requires few { self.old.bytes + length line.now < 2 ^ 64 }
+        requires allowed { IsTrue allowed → IsTrue (list_all is_allowed line.now) }
         ensures told { IfTold result (left result (state_of self.new) ≡
             reading.line_read (state_of self.old) line.now) }
         ensures counted { OnOk result (self.new.bytes ≡ self.old.bytes + length line.now) }
         ensures few { OnOk result (self.new.bytes ≤ limits.most_bytes) }
     {
-        if !are_allowed(line) {
+        if !allowed && !are_allowed(line) {
             return wrong(Cause::Byte);
         }
         self.read_said(line)?;
