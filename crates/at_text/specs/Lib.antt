@@ -5,3 +5,9 @@ pub mod Last
 pub mod Order
 pub mod Transcript
 pub mod Printable
+pub mod Laws
+pub mod Words
+pub mod Readers
+pub mod ReadValues
+pub mod ReadLines
+pub mod ReadLast

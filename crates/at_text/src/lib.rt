@@ -2,6 +2,7 @@
 #![tactic(auto)]
 
 mod last;
+pub mod laws;
 mod line;
 mod operation;
 mod order;
