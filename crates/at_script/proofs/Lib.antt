@@ -15,6 +15,7 @@ mod Numbered
 mod Numbers
 mod Outcomes
 mod Registers
+mod SaidForms
 mod StatementLines
 mod StatementRows
 mod TakenClasses

@@ -31,7 +31,7 @@ use Rattle.at_script.proofs.Numbered.{EachBelow, few_of}
 use Rattle.at_script.proofs.Begun.{IsBegun, at_most, begun_after}
 use Rattle.at_script.proofs.DeclaredBelow as declared_below_lemmas
 use Rattle.at_script.proofs.Outcomes.{chosen}
-use Rattle.at_script.proofs.Registers.{register_absent}
+use Rattle.at_script.proofs.Registers.{unfree, reserved_absent}
 use Rattle.at_script.proofs.StatementLines.{answered, is_over, cause_said}
 use Rattle.at_script.proofs.BlockLines.{keyword_line, limited}
 use Rattle.at_script.proofs.Extended.{Extends, extends_itself}
@@ -150,7 +150,7 @@ lines_are number s (line ∷ lines) fine =
 
 -- before the first line the state is fine
 pub fine_before : (lines : List (List ℕ)) → IsFine (before_all lines)
-fine_before lines = record { names = omega arith; vars = omega arith; begun = omega arith; registers = λ w is. register_absent w is (codes "func") lines [] refl }
+fine_before lines = record { names = omega arith; vars = omega arith; begun = omega arith; registers = λ w is. reserved_absent w (unfree w is) (codes "func") lines [] refl }
 
 -- what the text says after its last line
 abbrev pub last_state : List ℕ → State

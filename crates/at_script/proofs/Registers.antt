@@ -1,4 +1,4 @@
--- No line declares a register as a function.
+-- No line declares a reserved word.
 use Rattle.std.proofs.Common.{◌≡◌, ◌∙◌, ap, refl, sym, ℕ, List, [], ◌∷◌, ◌++◌, codes, Bool, true, false, cond, not, ◌||◌, ◌&&◌, Option, Some, None, is_some, bytes_eq}
 use Rattle.std.specs.List.{cons_option}
 use Rattle.std.proofs.lemmas.Bool.{false_from_ne_true, both_ways}
@@ -15,7 +15,7 @@ reserved true true register object h = refl
 reserved true false true object h = refl
 reserved true false false object h = absurd cc
 
-unfree : (w : List ℕ) → is_register w ≡ true → is_free w ≡ false
+pub unfree : (w : List ℕ) → is_register w ≡ true → is_free w ≡ false
 unfree w h = reserved (is_short w) (bytes_eq w (codes "none")) (is_register w) (is_object w) h
 
 free_if : (name w : List ℕ) (identifier free : Bool) → is_free name ≡ free → cond (identifier && free) (Some name) None ≡ Some w → is_free w ≡ true
@@ -27,7 +27,7 @@ name_free : (words : List (List ℕ)) (w : List ℕ) → declared_name words ≡
 name_free [] w e = absurd cc
 name_free (name ∷ rest) w e = free_if name w (is_identifier name) (is_free name) refl e
 
-declared_free : (key : List ℕ) (words : List (List ℕ)) (w : List ℕ) → declared_by key words ≡ Some w → is_free w ≡ true
+pub declared_free : (key : List ℕ) (words : List (List ℕ)) (w : List ℕ) → declared_by key words ≡ Some w → is_free w ≡ true
 declared_free key [] w e = absurd cc
 declared_free key (word ∷ words) w e = by_keyword (bytes_eq word key) e
   where
@@ -35,9 +35,9 @@ declared_free key (word ∷ words) w e = by_keyword (bytes_eq word key) e
     by_keyword true e = name_free words w e
     by_keyword false e = absurd cc
 
-module _ (r : List ℕ) (is : is_register r ≡ true) where
+module _ (r : List ℕ) (reserved : is_free r ≡ false) where
   other : (w : List ℕ) → is_free w ≡ true → bytes_eq r w ≡ false
-  other w free = false_from_ne_true (bytes_eq r w) (λ same. both_ways (is_free r) (unfree r is) (ap is_free ((bytes_eq-Decides r w).0 same) ∙ free))
+  other w free = false_from_ne_true (bytes_eq r w) (λ same. both_ways (is_free r) reserved (ap is_free ((bytes_eq-Decides r w).0 same) ∙ free))
 
   absent_with : (texts : List (List ℕ)) (w : List ℕ) → is_free w ≡ true → place_of r texts ≡ None → place_of r (with_text texts w) ≡ None
   absent_with texts w free absent = elim (is_some (place_of w texts)) as (λ b. place_of r (cond b texts (texts ++ w ∷ [])) ≡ None) [
@@ -45,10 +45,10 @@ module _ (r : List ℕ) (is : is_register r ≡ true) where
     | false ↦ place_of-other r w texts (other w free) ∙ absent
   ]
 
-  -- a register stays out of the texts that lines declare
-  pub register_absent : (key : List ℕ) (lines : List (List ℕ)) (texts : List (List ℕ)) → place_of r texts ≡ None → place_of r (with_texts texts (declared_in key lines)) ≡ None
-  register_absent key [] texts absent = absent
-  register_absent key (line ∷ lines) texts absent = by_declared (declared_by key (words_in line)) (λ w e. declared_free key (words_in line) w e) (λ more none. register_absent key lines more none)
+  -- a reserved word stays out of the texts that lines declare
+  pub reserved_absent : (key : List ℕ) (lines : List (List ℕ)) (texts : List (List ℕ)) → place_of r texts ≡ None → place_of r (with_texts texts (declared_in key lines)) ≡ None
+  reserved_absent key [] texts absent = absent
+  reserved_absent key (line ∷ lines) texts absent = by_declared (declared_by key (words_in line)) (λ w e. declared_free key (words_in line) w e) (λ more none. reserved_absent key lines more none)
     where
       by_declared : (o : Option (List ℕ)) → ((w : List ℕ) → o ≡ Some w → is_free w ≡ true)
           → ((more : List (List ℕ)) → place_of r more ≡ None → place_of r (with_texts more (declared_in key lines)) ≡ None)

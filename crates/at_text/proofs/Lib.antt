@@ -6,3 +6,4 @@ pub mod ReaderLaws
 pub mod ValueReads
 pub mod LineReads
 pub mod OwnNames
+pub mod LastReads
