@@ -23,3 +23,4 @@ mod TakenNames
 mod TakenOwners
 mod TakenValues
 mod Takes
+mod ToldApart

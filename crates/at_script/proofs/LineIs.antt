@@ -156,16 +156,16 @@ fine_before lines = record { names = omega arith; vars = omega arith; begun = om
 abbrev pub last_state : List ℕ → State
 last_state text = fold after (before_all (lines_of text)) (lines_of text)
 
-none_first : {A : Type 0} (o rest : Option A) → or o rest ≡ None → (o ≡ None) × (rest ≡ None)
+pub none_first : {A : Type 0} (o rest : Option A) → or o rest ≡ None → (o ≡ None) × (rest ≡ None)
 none_first None rest e = (refl, e)
 none_first (Some x) rest e = cc
 
-unmapped_none : {A B : Type 0} (f : A → B) (o : Option A) → option_map f o ≡ None → o ≡ None
+pub unmapped_none : {A B : Type 0} (f : A → B) (o : Option A) → option_map f o ≡ None → o ≡ None
 unmapped_none f None e = refl
 unmapped_none f (Some x) e = cc
 
 -- lines leave the classes and functions as they are declared
-fold_texts : (lines : List (List ℕ)) (s : State) → ((fold after s lines).texts.classes ≡ s.texts.classes) × ((fold after s lines).texts.funcs ≡ s.texts.funcs)
+pub fold_texts : (lines : List (List ℕ)) (s : State) → ((fold after s lines).texts.classes ≡ s.texts.classes) × ((fold after s lines).texts.funcs ≡ s.texts.funcs)
 fold_texts [] s = (refl, refl)
 fold_texts (line ∷ lines) s =
     let k = fold_texts lines (after s line) in

@@ -1,5 +1,5 @@
 -- What a line says has identifiers where its form asks for them.
-use Rattle.std.proofs.Common.{◌≡◌, ◌∙◌, ap, refl, sym, subst, ℕ, ◌==◌, List, [], ◌∷◌, ◌++◌, length, map, Bool, true, false, cond, ◌&&◌, leb, Option, Some, None, IfSome, bytes_eq, codes, option_to_list}
+use Rattle.std.proofs.Common.{◌≡◌, refl, ℕ, ◌==◌, List, [], ◌∷◌, ◌++◌, length, map, Bool, true, false, cond, ◌&&◌, leb, Option, Some, None, IfSome, bytes_eq, codes, option_to_list}
 use Rattle.std.specs.Option.{option_map, option_and_then}
 use Rattle.std.specs.List.{list_all, AllByRecursion}
 use Rattle.at_value.specs.Widths as widths
@@ -9,7 +9,7 @@ use Rattle.at_script.specs.Bytes as bytes
 use Rattle.at_script.specs.Keywords.{keyword_of}
 use Rattle.at_script.specs.Pieces.{halves, one_part, two_parts}
 use Rattle.at_script.specs.Words.{is_identifier, identifier_of, number_of}
-use Rattle.at_script.specs.Literals.{Written, nothing, integer, quoted, named, static, classm, prop, or, quoted_of, function_of, property_of, wrapped, wrapped_of, value_of}
+use Rattle.at_script.specs.Literals.{Written, nothing, integer, quoted, named, static, classm, or, quoted_of, function_of, property_of, wrapped, wrapped_of, value_of}
 use Rattle.at_script.specs.Shapes as shapes
 use Rattle.at_script.specs.Shapes.{Said, attribute_of, are_bases, identifier, identifiers, identifier_or_two, class_and_bases, attribute, attribute_and_value, identifier_and_attribute, identifier_and_value, value, given, identifiers_and_given, attribute_and_given, identifier_attribute_and_given, alone, words_say}
 use Rattle.at_script.specs.Uses as uses
@@ -17,7 +17,7 @@ use Rattle.at_script.specs.Uses.{Use, value_uses, given_uses, uses_of}
 use Rattle.at_script.specs.Causes.{said_in, says_after, uses_said}
 use Rattle.at_script.proofs.Ascii.{and-true}
 
-abbrev IsName : List ℕ → Type 0
+abbrev pub IsName : List ℕ → Type 0
 IsName word = is_identifier word ≡ true
 
 -- the word of a use is an identifier
@@ -96,7 +96,7 @@ function_form : (word : List ℕ) → IfSome (function_of word) IsFunction
 function_form word =
     if_some IsFunction (bytes_eq word (codes "-")) (Some None) (option_map Some (identifier_of word)) tt (map_some IsName IsFunction Some (identifier_of word) (name_form word) (λ f h. (h, tt)))
 
-both_forms : (us vs : List (List ℕ)) → AllByRecursion IsName us → AllByRecursion IsName vs → AllByRecursion IsName (us ++ vs)
+pub both_forms : (us vs : List (List ℕ)) → AllByRecursion IsName us → AllByRecursion IsName vs → AllByRecursion IsName (us ++ vs)
 both_forms [] vs h k = k
 both_forms (u ∷ us) vs h k = (h.0, both_forms us vs h.1 k)
 
