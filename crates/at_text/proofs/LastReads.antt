@@ -1,12 +1,10 @@
 -- Final namespaces and whole transcripts are read as they were written.
-use Rattle.std.proofs.Common.{◌≡◌, ◌∙◌, ◌≢◌, ap, refl, sym, subst, ℕ, zero, suc, ◌+◌, ◌≤◌, ◌<◌, ◌^◌, ◌==◌, nat_lt, arith, List, [], ◌∷◌, ◌++◌, length, take, drop, map, flat_map, Bool, true, false, cond, ◌&&◌, ◌||◌, Option, Some, None, codes, decimal, inl, inr, append-nil, append_assoc, All, length-append, take_at, drop_at}
+use Rattle.std.proofs.Common.{◌≡◌, ◌∙◌, ap, refl, sym, subst, ℕ, ◌+◌, ◌≤◌, ◌==◌, arith, List, [], ◌∷◌, ◌++◌, length, map, flat_map, true, false, cond, Option, Some, codes, decimal, append-nil, append_assoc, All, length-append, take_at, drop_at}
 use Rattle.std.specs.List.{AllByRecursion}
-use Rattle.std.specs.Option.{option_map}
 use Rattle.std.specs.Ordering.{nat_cmp, is_lt}
 use Rattle.std.specs.Cmp.Lexicographic.{slice_cmp}
 use Rattle.std.proofs.lemmas.Bool.{le-leb}
 use Rattle.std.proofs.lemmas.List.Elements.{recursion_from_All}
-use Rattle.at_value.specs.Pairs.{IsRising}
 use Rattle.at_value.specs.Types.{Value}
 use Rattle.at_model.specs.declared.last.ClassEnd.{ClassEnd}
 use Rattle.at_model.specs.declared.last.ObjEnd.{ObjEnd}
@@ -18,17 +16,17 @@ use Rattle.at_script.specs.Parts.{ScriptParts}
 use Rattle.at_script.specs.Literals.{◌>>=◌}
 use Rattle.at_script.specs.Script.{script_of}
 use Rattle.at_text.specs.Words as words
-use Rattle.at_text.specs.Values.{text_at, object_text, class_item, classes_text, value_item}
+use Rattle.at_text.specs.Values.{text_at, object_text}
 use Rattle.at_text.specs.Lines.{line_text}
 use Rattle.at_text.specs.Last.{inserted, by_bytes, pair_text, own_text, class_end_text, object_end_text, object_ends_text}
 use Rattle.at_text.specs.Transcript.{script_text, lines_text, final_text, text}
-use Rattle.at_text.specs.Printable.{IsWord, HasName, HasValue, HasClass, HasOwn, HasClassEnd, HasObjEnd, HasWhat, IsPrintable}
-use Rattle.at_text.specs.Readers.{Reader, nothing, made, both, after, before, begins_with, number_at, name_at, counted, numbered}
-use Rattle.at_text.specs.ReadValues.{class_item_at, classes_at, value_item_at}
-use Rattle.at_text.specs.ReadLines.{line_at, bare_line}
+use Rattle.at_text.specs.Printable.{IsWord, HasName, HasValue, HasOwn, HasClassEnd, HasObjEnd, HasWhat, IsPrintable}
+use Rattle.at_text.specs.Readers.{both, before, begins_with, counted, numbered}
+use Rattle.at_text.specs.Bare.{bare_line}
+use Rattle.at_text.specs.ReadLines.{line_at}
 use Rattle.at_text.specs.ReadLast.{pair_at, by_number, own_at, class_end, class_end_at, object_end, object_end_at, final_of, final_at, lines_at, bytes_at, script_at, whole, run_in, run_of}
-use Rattle.at_text.proofs.ReaderLaws.{Reads, Anything, Ends, Breaks, begun, same_text, where_follows, after_reads, before_reads, made_reads, both_reads, name_reads, number_reads, counted_reads, texts_from, Listed, numbered_reads, flat_texts}
-use Rattle.at_text.proofs.ValueReads.{IsTold, object_reads, class_item_reads, classes_read, value_item_reads}
+use Rattle.at_text.proofs.ReaderLaws.{Reads, Anything, begun, same_text, where_follows, after_reads, before_reads, made_reads, both_reads, name_reads, number_reads, counted_reads, texts_from, Listed, numbered_reads, flat_texts}
+use Rattle.at_text.proofs.ValueReads.{IsTold, class_item_reads, classes_read, value_item_reads}
 use Rattle.at_text.proofs.LineReads.{line_reads}
 use Rattle.at_text.proofs.OwnNames.{numbers_back}
 

@@ -7,3 +7,4 @@ pub mod ValueReads
 pub mod LineReads
 pub mod OwnNames
 pub mod LastReads
+pub mod OneToOne

@@ -1,8 +1,8 @@
 -- Lines are read as they were written, but for the numbers that a miss carries.
-use Rattle.std.proofs.Common.{◌≡◌, ◌∙◌, ap, refl, sym, subst, ℕ, zero, suc, ◌≤◌, ◌<◌, ◌^◌, ◌==◌, arith, List, [], ◌∷◌, ◌++◌, Bool, true, false, cond, ◌&&◌, ◌||◌, Option, Some, None, codes, decimal, inl, inr, append-nil, append_assoc, All}
+use Rattle.std.proofs.Common.{◌≡◌, ◌∙◌, ap, refl, sym, subst, ℕ, ◌≤◌, ◌==◌, arith, List, [], ◌∷◌, ◌++◌, true, false, cond, ◌&&◌, Option, Some, None, codes, decimal, inl, inr, append-nil, append_assoc}
 use Rattle.std.proofs.lemmas.Bool.{cases_Bool, eqb-true}
 use Rattle.std.proofs.lemmas.Fmt.{digits_decimal, decimal_nonempty}
-use Rattle.at_value.specs.Types.{Op, Value, Reply, HookKind, Path, Miss}
+use Rattle.at_value.specs.Types.{Op, Value, HookKind, Path}
 use Rattle.at_value.specs.declared.operation.Op.TheVariants as ops
 use Rattle.at_value.specs.declared.reply.Reply.TheVariants as replies
 use Rattle.at_value.specs.declared.reply.HookKind.TheVariants as hooks
@@ -17,13 +17,13 @@ use Rattle.at_line.specs.declared.line.What.TheVariants as whats
 use Rattle.at_script.specs.Bytes as bytes
 use Rattle.at_script.specs.Parts.{ScriptParts}
 use Rattle.at_text.specs.Words as words
-use Rattle.at_text.specs.Values.{text_at, object_text, classes_text, value_text}
-use Rattle.at_text.specs.Lines.{op_text, begin_text, line_op_text, hook_word, made_text, reply_text, line_reply_text, path_word, path_item, local_text, thread_text, what_text, line_text}
-use Rattle.at_text.specs.Printable.{IsWord, HasSecond, HasOp, HasLineOp, HasInit, HasReply, HasLineReply, HasLocal, HasWhat}
-use Rattle.at_text.specs.Readers.{Reader, nothing, made, both, after, before, begins_run, begins_with, number_at, name_at}
-use Rattle.at_text.specs.ReadValues.{object_at}
-use Rattle.at_text.specs.ReadLines.{operation_of, begins_object, second_at, line_op_at, hook_at, init_at, hook_parts, reply_of, line_reply_at, path_at, path_item_at, local_at, thread_at, did, what_at, line_of, line_at, bare_path, bare_what, bare_line}
-use Rattle.at_text.proofs.ReaderLaws.{Reads, Anything, Ends, Breaks, Stops, Closes, breaks-end, stops-break, closes-stop, and-true, or-true, begun, nothing_reads, same_text, where_follows, after_reads, before_reads, made_reads, both_reads, digits, digits_continue, name_reads, number_reads}
+use Rattle.at_text.specs.Values.{object_text, classes_text, value_text}
+use Rattle.at_text.specs.Lines.{op_text, begin_text, line_op_text, hook_word, made_text, line_reply_text, path_word, path_item, local_text, thread_text, what_text, line_text}
+use Rattle.at_text.specs.Printable.{IsWord, HasSecond, HasOp, HasLineOp, HasInit, HasLineReply, HasLocal, HasWhat}
+use Rattle.at_text.specs.Readers.{nothing, made, both, before, begins_run, begins_with, number_at}
+use Rattle.at_text.specs.Bare.{bare_path, bare_what, bare_line}
+use Rattle.at_text.specs.ReadLines.{begins_object, second_at, line_op_at, hook_at, init_at, hook_parts, line_reply_at, path_at, path_item_at, local_at, thread_at, did, what_at, line_of, line_at}
+use Rattle.at_text.proofs.ReaderLaws.{Reads, Anything, Ends, Breaks, Stops, Closes, breaks-end, stops-break, closes-stop, and-true, or-true, begun, same_text, after_reads, before_reads, made_reads, both_reads, digits, digits_continue, name_reads, number_reads}
 use Rattle.at_text.proofs.ValueReads.{IsTold, object_reads, object_attribute_reads, class_attribute_reads, class_item_reads, classes_read, value_reads, value_item_reads, begins_all}
 
 -- What stands after something that ends where a line or an operation does

@@ -1,19 +1,19 @@
 -- What is read of a text that was written, in front of anything that may follow.
-use Rattle.std.proofs.Common.{◌≡◌, ◌∙◌, ap, refl, sym, subst, ℕ, zero, suc, ◌+◌, ◌<◌, ◌≤◌, ◌^◌, ◌==◌, arith, rules, List, [], ◌∷◌, ◌++◌, length, map, append_assoc, append-nil, length-append, Bool, true, false, cond, not, ◌&&◌, ◌||◌, Option, Some, None, bytes_eq, decimal, ◌⊎◌, inl, inr, flat_map}
+use Rattle.std.proofs.Common.{◌≡◌, ◌∙◌, ap, refl, sym, subst, ℕ, zero, suc, ◌+◌, ◌<◌, ◌≤◌, ◌^◌, ◌==◌, arith, rules, List, [], ◌∷◌, ◌++◌, length, map, append_assoc, length-append, Bool, true, false, cond, not, ◌&&◌, ◌||◌, Option, Some, None, bytes_eq, decimal, ◌⊎◌, inl, inr, flat_map}
 use Rattle.std.specs.Option.{option_map}
 use Rattle.std.specs.List.{list_all, AllByRecursion}
 use Rattle.std.specs.Int.{is_in_range}
 use Rattle.std.specs.Str.Parse.{digits_value}
 use Rattle.std.specs.Cmp.Lexicographic.{nat_list_eq_equiv}
-use Rattle.std.proofs.lemmas.Bool.{cases_Bool, eq-eqb, eqb-true}
-use Rattle.std.proofs.lemmas.Fmt.{digits_decimal, digits_value-decimal, decimal_nonempty}
+use Rattle.std.proofs.lemmas.Bool.{eq-eqb, eqb-true}
+use Rattle.std.proofs.lemmas.Fmt.{digits_decimal, digits_value-decimal}
 use Rattle.std.proofs.lemmas.Str.Parse.{IsNumeralModel, numerals_by_value}
 use Rattle.at_name.specs.Texts.{place_of}
 use Rattle.at_script.specs.Bytes as bytes
 use Rattle.at_script.specs.Literals.{◌>>=◌}
 use Rattle.at_script.specs.Words.{begins_identifier, continues_identifier, is_identifier, is_digit}
 use Rattle.at_text.specs.Values.{text_at}
-use Rattle.at_text.specs.Readers.{Reader, nothing, made, both, past, after, before, run, past_run, begins_run, begins_with, number_of, number_at, name_at, counted, up_to, numbered}
+use Rattle.at_text.specs.Readers.{Reader, nothing, made, both, past, after, before, run, past_run, begins_with, number_of, number_at, name_at, counted, up_to, numbered}
 
 -- Read in front of what may follow, the text of a thing is the thing and the rest.
 pub record Reads {A : Type 0} (r : Reader A) (text : List ℕ) (a : A) (follows : List ℕ → Type 0) : Type 0 where
@@ -148,8 +148,7 @@ pub word_runs : (word x : List ℕ) → list_all continues_identifier word ≡ t
 word_runs [] x all h = nothing_runs x h
 word_runs (byte ∷ word) x all h =
     let each = and-true (continues_identifier byte) (list_all continues_identifier word) all in
-    let rest = word_runs word x each.1 h in
-    (
+    let rest = word_runs word x each.1 h in (
       ap (λ b. cond b (byte ∷ run (word ++ x)) []) each.0 ∙ ap (λ w. byte ∷ w) rest.0,
       ap (λ b. cond b (past_run (word ++ x)) (byte ∷ (word ++ x))) each.0 ∙ rest.1,
     )

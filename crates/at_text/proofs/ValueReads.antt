@@ -1,8 +1,7 @@
 -- Names and values are read as they were written.
-use Rattle.std.proofs.Common.{◌≡◌, ◌∙◌, ap, refl, sym, subst, ℕ, zero, suc, ◌+◌, ◌<◌, ◌≤◌, ◌^◌, ◌==◌, arith, List, [], ◌∷◌, ◌++◌, length, Bool, true, false, cond, not, ◌&&◌, Option, Some, None, bytes_eq, codes, decimal, pos, negsuc, inl, inr, flat_map, length-append, option_and_then, true≢false}
-use Rattle.std.specs.Option.{option_map}
+use Rattle.std.proofs.Common.{◌≡◌, ◌∙◌, ap, refl, sym, subst, ℕ, suc, ◌<◌, ◌==◌, arith, List, [], ◌∷◌, ◌++◌, length, true, false, ◌&&◌, Option, Some, None, bytes_eq, codes, decimal, pos, negsuc, inl, inr, option_and_then, true≢false}
 use Rattle.std.specs.List.{list_all, All, AllByRecursion}
-use Rattle.std.proofs.lemmas.Bool.{cases_Bool, eqb-true, false_from_ne_true}
+use Rattle.std.proofs.lemmas.Bool.{eqb-true, false_from_ne_true}
 use Rattle.std.proofs.lemmas.Bool.Decides.{nat_tests}
 use Rattle.std.proofs.lemmas.Fmt.{digits_decimal, decimal_nonempty}
 use Rattle.std.proofs.lemmas.Slice.Eq.{bytes_eq-Decides}
@@ -15,11 +14,11 @@ use Rattle.at_script.specs.Bytes as bytes
 use Rattle.at_script.specs.Parts.{ScriptParts}
 use Rattle.at_script.specs.Words.{begins_identifier, continues_identifier, is_identifier, is_digit}
 use Rattle.at_text.specs.Words as words
-use Rattle.at_text.specs.Values.{text_at, object_text, object_attribute, class_attribute, class_item, classes_text, part_text, property_text, value_text, value_item}
-use Rattle.at_text.specs.Printable.{IsWord, HasName, HasClass, HasFunc, HasPart, HasProperty, HasValue}
-use Rattle.at_text.specs.Readers.{Reader, nothing, made, both, after, before, run, past_run, begins_run, begins_with, number_of, number_at, name_at, numbered}
-use Rattle.at_text.specs.ReadValues.{object_at, object_attribute_at, class_attribute_at, class_item_at, begins_name, begins_item, classes_at, part_at, property, property_at, negative_at, below_zero, named, worded, marked_rows, wrapped_rows, value_at, value_item_at}
-use Rattle.at_text.proofs.ReaderLaws.{Reads, Anything, ends, Ends, breaks, Breaks, Stops, breaks-end, stops-break, and-true, or-true, begun, nothing_reads, same_text, where_follows, after_reads, before_reads, made_reads, both_reads, word_runs, IsKnown, AreKnown, identifier_continues, digits, digits_continue, number_of_decimal, name_reads, number_reads, texts_from, Listed, numbered_reads, flat_texts}
+use Rattle.at_text.specs.Values.{text_at, object_text, object_attribute, class_attribute, class_item, classes_text, part_text, value_text, value_item}
+use Rattle.at_text.specs.Printable.{IsWord, HasName, HasClass, HasPart, HasProperty, HasValue}
+use Rattle.at_text.specs.Readers.{nothing, after, begins_run, begins_with}
+use Rattle.at_text.specs.ReadValues.{object_at, object_attribute_at, class_attribute_at, class_item_at, begins_name, begins_item, classes_at, part_at, property, property_at, below_zero, named, worded, value_at, value_item_at}
+use Rattle.at_text.proofs.ReaderLaws.{Reads, Ends, Breaks, Stops, breaks-end, stops-break, and-true, or-true, begun, same_text, where_follows, after_reads, before_reads, made_reads, both_reads, word_runs, AreKnown, identifier_continues, digits, digits_continue, number_of_decimal, name_reads, number_reads, Listed, numbered_reads, flat_texts}
 
 -- What a script has is told apart: its texts are names, each at its place, none of a class or a function is `none`, and no
 -- class has the name of a function.

@@ -1,6 +1,5 @@
 -- private: no public clause cites it. Final namespaces and whole transcripts, as they are read.
-use Rattle.std.specs.Prelude.{ℕ, ◌==◌, nat_le, Bool, List, [], ◌∷◌, length, take, drop, Option, Some, None, if◌then◌else◌, codes}
-use Rattle.std.specs.Option.{option_map}
+use Rattle.std.specs.Prelude.{ℕ, nat_le, List, [], ◌∷◌, length, take, drop, Option, Some, None, if◌then◌else◌, codes}
 use Rattle.at_value.specs.Pairs.{with_value}
 use Rattle.at_value.specs.Types.{Value}
 use Rattle.at_model.specs.declared.last.ClassEnd.{ClassEnd}
@@ -13,7 +12,7 @@ use Rattle.at_script.specs.Literals.{◌>>=◌}
 use Rattle.at_script.specs.Script.{script_of}
 use Rattle.at_text.specs.Words as words
 use Rattle.at_text.specs.Values.{object_text}
-use Rattle.at_text.specs.Readers.{Reader, made, both, after, before, past, begins_with, number_at, name_at, counted, numbered}
+use Rattle.at_text.specs.Readers.{Reader, made, both, after, before, begins_with, number_at, name_at, counted, numbered}
 use Rattle.at_text.specs.ReadValues.{class_item_at, classes_at, value_item_at}
 use Rattle.at_text.specs.ReadLines.{line_at}
 

@@ -1,6 +1,6 @@
 -- private: no public clause cites it. Lines, as they are read.
-use Rattle.std.specs.Prelude.{ℕ, ◌==◌, Bool, false, ◌&&◌, List, [], ◌∷◌, ◌++◌, map, Option, Some, None, if◌then◌else◌, codes}
-use Rattle.at_value.specs.Types.{Op, Value, Reply, HookKind, Path, Miss}
+use Rattle.std.specs.Prelude.{ℕ, ◌==◌, Bool, false, ◌&&◌, List, [], ◌∷◌, map, Option, Some, None, if◌then◌else◌, codes}
+use Rattle.at_value.specs.Types.{Op, Value, Reply, HookKind, Path}
 use Rattle.at_value.specs.declared.operation.Op.TheVariants as ops
 use Rattle.at_value.specs.declared.reply.Reply.TheVariants as replies
 use Rattle.at_value.specs.declared.reply.HookKind.TheVariants as hooks
@@ -15,7 +15,7 @@ use Rattle.at_line.specs.declared.line.What.TheVariants as whats
 use Rattle.at_script.specs.Bytes as bytes
 use Rattle.at_script.specs.Parts.{ScriptParts}
 use Rattle.at_text.specs.Words as words
-use Rattle.at_text.specs.Lines.{hook_word, reply_text, line_op_text, line_reply_text, path_word, local_text, thread_text}
+use Rattle.at_text.specs.Lines.{hook_word, line_op_text, line_reply_text, path_word, local_text, thread_text}
 use Rattle.at_text.specs.Readers.{Reader, Row, nothing, made, both, after, before, choice, begins_run, begins_with, number_at, name_at}
 use Rattle.at_text.specs.ReadValues.{object_at, object_attribute_at, class_attribute_at, class_item_at, classes_at, value_at, value_item_at}
 
@@ -73,7 +73,6 @@ hook_at = choice (map (word_row hook_word) all_hooks)
 abbrev pub init_at : ScriptParts → Reader (Option Value)
 init_at s = λ text.
     if begins_with bytes.space text then after words.init_word (made Some (value_at s)) text else Some (None, text)
-
 
 -- a hook: callee, receiver, other argument and value
 abbrev pub hook_parts : (((HookKind × Value) × Value) × Value) × Value → Reply
@@ -148,29 +147,3 @@ line_of p = record { what = p.1; number = p.0.1; thread = p.0.0 }
 unfoldable pub line_at : ScriptParts → Reader Line
 line_at s =
     made line_of (before (both (before (both (before thread_at (codes " ")) number_at) (codes " ")) (what_at s)) (codes "\n"))
-
--- What is read of a line
-
--- a miss without the words that the call loaded
-abbrev pub bare_miss : Miss → Miss
-bare_miss (misses.Untagged c) = misses.Untagged 0
-bare_miss (misses.Unlike e) = misses.Unlike 0
-bare_miss (misses.Writing e n) = misses.Writing 0 0
-bare_miss (misses.Changed e n m) = misses.Changed 0 0 0
-bare_miss (misses.Odd o n) = misses.Odd 0 0
-bare_miss (misses.Dict o n) = misses.Dict 0 0
-bare_miss (misses.Keyless c x) = misses.Keyless 0 0
-bare_miss (misses.Moved w n m) = misses.Moved 0 0 0
-
-abbrev pub bare_path : Path → Path
-bare_path paths.Fast = paths.Fast
-bare_path (paths.Slow m) = paths.Slow (bare_miss m)
-bare_path paths.Locked = paths.Locked
-
-abbrev pub bare_what : What → What
-bare_what (whats.Did place way operation r) = whats.Did place (bare_path way) operation r
-bare_what (whats.Local l) = whats.Local l
-
--- a line with 0 for each number that its miss carries
-abbrev pub bare_line : Line → Line
-bare_line line = record line { what = bare_what line.what }

@@ -1,9 +1,8 @@
 -- private: no public clause cites it. Readers: what stands at the front of a text, and what follows it.
-use Rattle.std.specs.Prelude.{ℕ, zero, suc, ◌==◌, ◌+◌, Bool, true, false, not, ◌||◌, List, [], ◌∷◌, length, Option, Some, None, if◌then◌else◌, bytes_eq, decimal}
+use Rattle.std.specs.Prelude.{ℕ, zero, suc, ◌==◌, ◌+◌, Bool, false, List, [], ◌∷◌, length, Option, Some, None, if◌then◌else◌, bytes_eq, decimal}
 use Rattle.std.specs.Option.{option_map}
 use Rattle.std.specs.Str.Parse.{digits_value}
 use Rattle.at_name.specs.Texts.{place_of}
-use Rattle.at_script.specs.Bytes as bytes
 use Rattle.at_script.specs.Literals.{◌>>=◌}
 use Rattle.at_script.specs.Words.{continues_identifier}
 

@@ -1,6 +1,7 @@
 //! The text of a transcript: what a run did, written in the words of its script.
 #![tactic(auto)]
 
+pub mod examples;
 mod last;
 pub mod laws;
 mod line;

@@ -1,9 +1,5 @@
-use Rattle.std.specs.Prelude.{refl}
-use Rattle.at_text.proofs.ReaderLaws.{numbered_reads}
-use Rattle.at_text.proofs.ValueReads.{value_item_reads}
-use Rattle.at_text.proofs.LineReads.{line_reads}
-use Rattle.at_text.proofs.LastReads.{run_back}
+use Rattle.at_text.proofs.OneToOne.{one_to_one}
 use Rattle.at_text.proofs.laws.text_is_one_to_one.Goals as goal
 
 pub returns : goal.returns
-returns c = λ x y. refl
+returns c = one_to_one c.names_are_told_apart.ensures c.scripts_are_short.ensures
