@@ -20,7 +20,7 @@ use Rattle.at_text.specs.Values.{text_at, object_text}
 use Rattle.at_text.specs.Lines.{line_text}
 use Rattle.at_text.specs.Last.{inserted, by_bytes, pair_text, own_text, class_end_text, object_end_text, object_ends_text}
 use Rattle.at_text.specs.Transcript.{script_text, lines_text, final_text, text}
-use Rattle.at_text.specs.Printable.{IsWord, HasName, HasValue, HasOwn, HasClassEnd, HasObjEnd, HasWhat, IsPrintable}
+use Rattle.at_text.specs.Printable.{IsLong, IsShort, HasName, HasValue, HasOwn, HasClassEnd, HasObjEnd, HasWhat, IsPrintable}
 use Rattle.at_text.specs.Readers.{both, before, begins_with, counted, numbered}
 use Rattle.at_text.specs.Bare.{bare_line}
 use Rattle.at_text.specs.ReadLines.{line_at}
@@ -151,13 +151,13 @@ module _ (s : ScriptParts) (told : IsTold s) where
   abbrev LineReads : Line → Type 0
   LineReads line = Reads (line_at s) (line_text s line) (bare_line line) Anything
 
-  each_line : (lines : List Line) → AllByRecursion (λ (line : Line). line.thread ≤ finally_thread) lines → AllByRecursion (λ (line : Line). IsWord line.number) lines → AllByRecursion (λ (line : Line). HasWhat s line.what) lines
+  each_line : (lines : List Line) → AllByRecursion (λ (line : Line). line.thread ≤ finally_thread) lines → AllByRecursion (λ (line : Line). IsShort line.number) lines → AllByRecursion (λ (line : Line). HasWhat s line.what) lines
       → AllByRecursion LineReads lines
   each_line [] thread number what = tt
   each_line (line ∷ lines) thread number what =
       (line_reads s told line thread.0 number.0 what.0, each_line lines thread.1 number.1 what.1)
 
-  lines_reads : (lines : List Line) → IsWord (length lines) → AllByRecursion LineReads lines → Reads (lines_at s) (lines_text s lines) (map bare_line lines) Anything
+  lines_reads : (lines : List Line) → IsLong (length lines) → AllByRecursion LineReads lines → Reads (lines_at s) (lines_text s lines) (map bare_line lines) Anything
   lines_reads lines few all =
       let head = before_reads (codes "\n") (λ y. refl) (after_reads words.lines_word (number_reads (length lines) few)) in
       let rest : ℕ × List ℕ → Option (List Line × List ℕ) = λ count. counted count.0 (line_at s) count.1 in
@@ -176,7 +176,7 @@ bytes_reads bytes = record {
       rw (le-leb (length bytes) (length (bytes ++ x)) (omega arith), take_at, drop_at) refl;
 }
 
-script_reads : (script : List ℕ) → IsWord (length script) → Reads script_at (script_text script) script Anything
+script_reads : (script : List ℕ) → IsLong (length script) → Reads script_at (script_text script) script Anything
 script_reads script few =
     let head = before_reads (codes "\n") (λ y. refl) (after_reads words.header_word (number_reads (length script) few)) in
     let rest : ℕ × List ℕ → Option (List ℕ × List ℕ) = λ count. before (bytes_at count.0) (codes "\n") count.1 in
@@ -188,11 +188,11 @@ script_reads script few =
     }
 
 -- the text of a run is the run's, but for the numbers that its misses carry
-pub run_back : (script : List ℕ) (s : ScriptParts) (lines : List Line) (last : Final) → IsWord (length script) → IsTold s → IsPrintable script s lines last
+pub run_back : (script : List ℕ) (s : ScriptParts) (lines : List Line) (last : Final) → IsLong (length script) → IsTold s → IsPrintable script s lines last
     → run_of (text script s lines last) ≡ Some (script, (map bare_line lines, last))
 run_back script s lines last few told h =
     let rest : List ℕ × List ℕ → Option (List ℕ × (List Line × Final)) = λ found. script_of found.0 >>= run_in found in
-    let each = each_line s told lines (recursion_from_All _ lines h.most) (recursion_from_All _ lines h.counted) (recursion_from_All _ lines h.known) in
+    let each = each_line s told lines (recursion_from_All _ lines h.most) (recursion_from_All _ lines h.short) (recursion_from_All _ lines h.known) in
     let parts = both_reads (λ y g. tt) (lines_reads s told lines h.few each) (final_reads s told last h.classes h.objects) in
     let left : List ℕ = lines_text s lines ++ final_text s last in
     let read : both (lines_at s) (final_at s) left ≡ Some ((map bare_line lines, last), []) = ap (both (lines_at s) (final_at s)) (sym (append-nil left)) ∙ parts.here [] tt in

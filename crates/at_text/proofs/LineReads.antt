@@ -19,7 +19,7 @@ use Rattle.at_script.specs.Parts.{ScriptParts}
 use Rattle.at_text.specs.Words as words
 use Rattle.at_text.specs.Values.{object_text, classes_text, value_text}
 use Rattle.at_text.specs.Lines.{op_text, begin_text, line_op_text, hook_word, made_text, line_reply_text, path_word, path_item, local_text, thread_text, what_text, line_text}
-use Rattle.at_text.specs.Printable.{IsWord, HasSecond, HasOp, HasLineOp, HasInit, HasLineReply, HasLocal, HasWhat}
+use Rattle.at_text.specs.Printable.{IsLong, IsShort, HasSecond, HasOp, HasLineOp, HasInit, HasLineReply, HasLocal, HasWhat}
 use Rattle.at_text.specs.Readers.{nothing, made, both, before, begins_run, begins_with, number_at}
 use Rattle.at_text.specs.Bare.{bare_path, bare_what, bare_line}
 use Rattle.at_text.specs.ReadLines.{begins_object, second_at, line_op_at, hook_at, init_at, hook_parts, line_reply_at, path_at, path_item_at, local_at, thread_at, did, what_at, line_of, line_at}
@@ -200,7 +200,7 @@ module _ (s : ScriptParts) (told : IsTold s) where
   line_reply_reads (line_replies.Of replies.Full) h = record { here = λ x f. refl }
   line_reply_reads line_replies.Kept h = record { here = λ x f. refl }
   line_reply_reads (line_replies.Suspended n) h = record {
-    here = λ x f. (made_reads line_replies.Suspended (number_reads n h)).here x (closes-end x f);
+    here = λ x f. (made_reads line_replies.Suspended (number_reads n (omega arith))).here x (closes-end x f);
   }
 
   -- Lines
@@ -250,10 +250,10 @@ module _ (s : ScriptParts) (told : IsTold s) where
   begins_more [] x h = cc
   begins_more (byte ∷ text) x h = h
 
-  begins_number : (n : ℕ) (x : List ℕ) → IsWord n → begins_run (decimal n ++ x) ≡ true
+  begins_number : (n : ℕ) (x : List ℕ) → IsLong n → begins_run (decimal n ++ x) ≡ true
   begins_number n x h = begins_all s told (decimal n) x (decimal_nonempty n h) (digits_continue (decimal n) (digits_decimal digits n h))
 
-  did_reads : (place : ℕ) (way : Path) (operation : LineOp) (r : LineReply) → IsWord place → HasLineOp s operation → HasLineReply s r
+  did_reads : (place : ℕ) (way : Path) (operation : LineOp) (r : LineReply) → IsLong place → HasLineOp s operation → HasLineReply s r
       → Reads (made did (both (before (both (both number_at path_item_at) (line_op_at s)) (codes " = ")) (line_reply_at s))) (decimal place ++ path_item way ++ line_op_text s operation ++ codes " = " ++ line_reply_text s r) (whats.Did (record { 0 = place }) (bare_path way) operation r) Closes
   did_reads place way operation r n o h =
       let first = both_reads (λ y g. refl) (number_reads place n) (path_item_reads way) in
@@ -274,9 +274,9 @@ module _ (s : ScriptParts) (told : IsTold s) where
   }
   what_reads (whats.Local l) h = record { here = λ x f. (after_reads (codes "- local ") (made_reads whats.Local (local_reads l h))).here x f }
 
-  pub line_reads : (line : Line) → line.thread ≤ finally_thread → IsWord line.number → HasWhat s line.what → Reads (line_at s) (line_text s line) (bare_line line) Anything
+  pub line_reads : (line : Line) → line.thread ≤ finally_thread → IsShort line.number → HasWhat s line.what → Reads (line_at s) (line_text s line) (bare_line line) Anything
   unfolding line_at
   line_reads line t n h =
       let first = before_reads (codes " ") (λ y. refl) (thread_reads line.thread t) in
-      let second = before_reads (codes " ") (λ y. refl) (both_reads (λ y g. tt) first (number_reads line.number n)) in
+      let second = before_reads (codes " ") (λ y. refl) (both_reads (λ y g. tt) first (number_reads line.number (omega arith))) in
       made_reads line_of (before_reads (codes "\n") (λ y. refl) (both_reads (λ y g. tt) second (what_reads line.what h)))

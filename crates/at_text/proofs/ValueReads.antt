@@ -15,7 +15,7 @@ use Rattle.at_script.specs.Parts.{ScriptParts}
 use Rattle.at_script.specs.Words.{begins_identifier, continues_identifier, is_identifier, is_digit}
 use Rattle.at_text.specs.Words as words
 use Rattle.at_text.specs.Values.{text_at, object_text, object_attribute, class_attribute, class_item, classes_text, part_text, value_text, value_item}
-use Rattle.at_text.specs.Printable.{IsWord, HasName, HasClass, HasPart, HasProperty, HasValue}
+use Rattle.at_text.specs.Printable.{IsLong, IsObject, HasName, HasClass, HasPart, HasProperty, HasValue}
 use Rattle.at_text.specs.Readers.{nothing, after, begins_run, begins_with}
 use Rattle.at_text.specs.ReadValues.{object_at, object_attribute_at, class_attribute_at, class_item_at, begins_name, begins_item, classes_at, part_at, property, property_at, below_zero, named, worded, value_at, value_item_at}
 use Rattle.at_text.proofs.ReaderLaws.{Reads, Ends, Breaks, Stops, breaks-end, stops-break, and-true, or-true, begun, same_text, where_follows, after_reads, before_reads, made_reads, both_reads, word_runs, AreKnown, identifier_continues, digits, digits_continue, number_of_decimal, name_reads, number_reads, Listed, numbered_reads, flat_texts}
@@ -33,11 +33,11 @@ pub record IsTold (s : ScriptParts) : Type 0 where
 
 -- Objects, attributes and classes
 
-pub object_reads : (o : ℕ) → IsWord o → Reads object_at (object_text o) o Ends
-object_reads o h = after_reads (codes "#") (number_reads o h)
+pub object_reads : (o : ℕ) → IsObject o → Reads object_at (object_text o) o Ends
+object_reads o h = after_reads (codes "#") (number_reads o (omega arith))
 
 module _ (s : ScriptParts) (told : IsTold s) where
-  pub object_attribute_reads : (o x : ℕ) → IsWord o → HasName s x → Reads (object_attribute_at s) (object_attribute s o x) (o, x) Ends
+  pub object_attribute_reads : (o x : ℕ) → IsObject o → HasName s x → Reads (object_attribute_at s) (object_attribute s o x) (o, x) Ends
   object_attribute_reads o x h n = both_reads (λ y f. tt) (before_reads (codes ".") (λ y. refl) (object_reads o h)) (name_reads s.names x (told.names x n))
 
   pub class_attribute_reads : (c x : ℕ) → HasClass s c → HasName s x → Reads (class_attribute_at s) (class_attribute s c x) (c, x) Ends
@@ -125,7 +125,7 @@ module _ (s : ScriptParts) (told : IsTold s) where
   not_digits (byte ∷ word) h =
       ap (λ b. b && list_all is_digit word) (letter_no_digit byte (and-true (begins_identifier byte) (list_all continues_identifier word) h).0)
 
-  not_none : (n : ℕ) → IsWord n → bytes_eq (decimal n) words.none_word ≡ false
+  not_none : (n : ℕ) → IsLong n → bytes_eq (decimal n) words.none_word ≡ false
   not_none n h = false_from_ne_true (bytes_eq (decimal n) words.none_word) (λ same.
       let all : list_all is_digit words.none_word ≡ true = subst (λ w. list_all is_digit w ≡ true) ((bytes_eq-Decides (decimal n) words.none_word).0 same) (digits_decimal digits n h) in
       true≢false (sym all))
@@ -143,11 +143,12 @@ module _ (s : ScriptParts) (told : IsTold s) where
   unfolding value_at
   value_reads Nothing h = worded_reads words.none_word Nothing refl (λ x. refl) refl
   value_reads (Int (pos n)) h =
-      let all = digits_decimal digits n h in
+      let long : IsLong n = omega arith in
+      let all = digits_decimal digits n long in
       let continue = digits_continue (decimal n) all in
-      worded_reads (decimal n) (Int (pos n)) continue (λ x. begins_all (decimal n) x (decimal_nonempty n h) continue) (rw (not_none n h, all, number_of_decimal n h) refl)
+      worded_reads (decimal n) (Int (pos n)) continue (λ x. begins_all (decimal n) x (decimal_nonempty n long) continue) (rw (not_none n long, all, number_of_decimal n long) refl)
   value_reads (Int (negsuc n)) h = record {
-    here = λ x f. ap (λ (o : Option (ℕ × List ℕ)). option_and_then below_zero o) ((number_reads (suc n) h).here x (breaks-end x f));
+    here = λ x f. ap (λ (o : Option (ℕ × List ℕ)). option_and_then below_zero o) ((number_reads (suc n) (omega arith)).here x (breaks-end x f));
   }
   value_reads (Text x) h = record { here = λ y f. (before_reads (codes "\"") (λ z. refl) (made_reads Text (name_reads s.names x (told.names x h)))).here y tt }
   value_reads (Func f) h =
@@ -158,7 +159,7 @@ module _ (s : ScriptParts) (told : IsTold s) where
   value_reads (Class c) h =
       named_reads (text_at s.classes c) (Class c) (told.classes c h).form (told.no_class c h)
       (ap (λ o. named o (place_of (text_at s.classes c) s.classes)) (told.apart c h) ∙ ap (named None) (told.classes c h).place)
-  value_reads (Obj o) h = record { here = λ x f. (made_reads Obj (number_reads o h)).here x (breaks-end x f) }
+  value_reads (Obj o) h = record { here = λ x f. (made_reads Obj (number_reads o (omega arith))).here x (breaks-end x f) }
 
   pub value_item_reads : (v : value.Value) → HasValue s v → Reads (value_item_at s) (value_item s v) v Breaks
   value_item_reads v h = after_reads (codes " ") (value_reads v h)

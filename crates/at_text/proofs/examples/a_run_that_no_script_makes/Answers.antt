@@ -4,7 +4,7 @@ use Rattle.std.proofs.lemmas.Bool.{cases_Bool, eqb-true}
 use Rattle.std.proofs.lemmas.List.Elements.{All-from_recursion, All-nil}
 use Rattle.at_line.specs.Lines.{main_thread, finally_thread, lines_of_thread}
 use Rattle.at_line.specs.Types.{Line}
-use Rattle.at_text.specs.Printable.{IsWord, HasName, HasValue, HasClass, HasWhat, HasClassEnd, HasObjEnd}
+use Rattle.at_text.specs.Printable.{IsShort, HasName, HasValue, HasClass, HasWhat, HasClassEnd, HasObjEnd}
 use Rattle.at_text.specs.PrintableExample.{odd_parts, odd_lines, odd_last}
 use Rattle.at_text.proofs.examples.a_run_that_no_script_makes.Goals as goal
 
@@ -28,7 +28,7 @@ returns c = record {
   threads = search rules;
   most = All-from_recursion (λ (line : Line). line.thread ≤ finally_thread) odd_lines (omega arith, (omega arith, (omega arith, (omega arith, tt))));
   numbers = are_numbered;
-  counted = All-from_recursion (λ (line : Line). IsWord line.number) odd_lines (omega arith, (omega arith, (omega arith, (omega arith, tt))));
+  short = All-from_recursion (λ (line : Line). IsShort line.number) odd_lines (omega arith, (omega arith, (omega arith, (omega arith, tt))));
   few = omega arith;
   known = All-from_recursion (λ (line : Line). HasWhat odd_parts line.what) odd_lines (
     (omega arith, omega arith, All-nil (HasClass odd_parts)),
