@@ -84,7 +84,7 @@ module _ (s : ScriptParts) (told : IsTold s) where
   pub op_reads : (operation : Op) → HasOp s operation → Reads (line_op_at s) (op_text s operation) (line_ops.Of operation) Stops
   unfolding line_op_at
   op_reads (ops.NewClass c bases) h = record {
-    here = λ x f. (made_reads (λ (p : ℕ × List ℕ). line_ops.Of (ops.NewClass p.0 p.1)) (both_reads (classes-end bases) (name_reads s.classes c (told.classes c h.0)) (classes_read s told bases h.1))).here x f;
+    here = λ x f. (made_reads (λ (p : ℕ × List ℕ). line_ops.Of (ops.NewClass p.0 p.1)) (both_reads (classes-end bases) (name_reads s.classes c (told.classes c h.0)) (classes_read s told bases h.1.1))).here x f;
   }
   op_reads (ops.TypeSet c n v) h = record {
     here = λ x f. (made_reads (λ (p : (ℕ × ℕ) × Value). line_ops.Of (ops.TypeSet p.0.0 p.0.1 p.1)) (both_reads (λ y g. refl) (class_attribute_reads s told c n h.0 h.1) (value_item_reads s told v h.2))).here x (stops-break x f);
@@ -93,7 +93,7 @@ module _ (s : ScriptParts) (told : IsTold s) where
     here = λ x f. (made_reads (λ (p : ℕ × ℕ). line_ops.Of (ops.TypeDel p.0 p.1)) (class_attribute_reads s told c n h.0 h.1)).here x (stops-end x f);
   }
   op_reads (ops.SetBases c bases) h = record {
-    here = λ x f. (made_reads (λ (p : ℕ × List ℕ). line_ops.Of (ops.SetBases p.0 p.1)) (both_reads (classes-end bases) (name_reads s.classes c (told.classes c h.0)) (classes_read s told bases h.1))).here x f;
+    here = λ x f. (made_reads (λ (p : ℕ × List ℕ). line_ops.Of (ops.SetBases p.0 p.1)) (both_reads (classes-end bases) (name_reads s.classes c (told.classes c h.0)) (classes_read s told bases h.1.1))).here x f;
   }
   op_reads (ops.New c) h = record {
     here = λ x f. (made_reads (λ (n : ℕ). line_ops.Of (ops.New n)) (name_reads s.classes c (told.classes c h))).here x (stops-end x f);

@@ -1,5 +1,5 @@
--- The runs that the text tells apart. `print` writes the text of any lines and namespaces; on this domain the text is
--- meant to be one to one, but for the words that a call loaded before it went the slow way, which no line tells.
+-- The runs that the text tells apart. `print` writes the text of any lines and namespaces; on this domain the text is one
+-- to one, but for the words that a call loaded before it went the slow way, which no line tells.
 use Rattle.std.specs.Prelude.{ℕ, ◌≡◌, ◌<◌, ◌≤◌, ◌^◌, ℤ, pos, negsuc, List, Option, Some, None, All, length, map}
 use Rattle.std.specs.List.{range_with_len}
 use Rattle.std.specs.List.Sorted.{IsNonDecreasing}
@@ -70,12 +70,16 @@ HasValue s (values.ClassM f) = HasFunc s f
 HasValue s (values.Class c) = HasClass s c
 HasValue s (values.Obj o) = IsObject o
 
+-- no more bases than a class may have
+abbrev pub HasBases : ScriptParts → List ℕ → Type 0
+HasBases s bases = (length bases ≤ widths.most_bases) × All (HasClass s) bases
+
 -- the script has what the operation names
 abbrev pub HasOp : ScriptParts → Op → Type 0
-HasOp s (ops.NewClass c bases) = HasClass s c × All (HasClass s) bases
+HasOp s (ops.NewClass c bases) = HasClass s c × HasBases s bases
 HasOp s (ops.TypeSet c x v) = HasClass s c × HasName s x × HasValue s v
 HasOp s (ops.TypeDel c x) = HasClass s c × HasName s x
-HasOp s (ops.SetBases c bases) = HasClass s c × All (HasClass s) bases
+HasOp s (ops.SetBases c bases) = HasClass s c × HasBases s bases
 HasOp s (ops.New c) = HasClass s c
 HasOp s (ops.Set o x v) = IsObject o × HasName s x × HasValue s v
 HasOp s (ops.Del o x) = IsObject o × HasName s x

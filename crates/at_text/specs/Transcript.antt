@@ -30,6 +30,6 @@ abbrev pub final_text : ScriptParts → Final → List ℕ
 final_text s last = words.final_word ++ flat_map (class_end_text s) last.classes ++ object_ends_text s 0 last.objects ++ words.end_word
 
 -- The whole text. The names are those of the script; one that the script doesn't have is written as nothing. The
--- domain on which it is meant to be one to one is `IsPrintable`.
+-- domain on which it is one to one is `IsPrintable`.
 abbrev pub text : List ℕ → ScriptParts → List Line → Final → List ℕ
 text script s lines last = script_text script ++ lines_text s lines ++ final_text s last
