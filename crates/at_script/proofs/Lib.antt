@@ -15,6 +15,7 @@ mod Numbered
 mod Numbers
 mod Outcomes
 mod Registers
+mod SaidForms
 mod StatementLines
 mod StatementRows
 mod TakenClasses
@@ -22,3 +23,4 @@ mod TakenNames
 mod TakenOwners
 mod TakenValues
 mod Takes
+mod ToldApart

@@ -1,5 +1,5 @@
 -- A line without offence keeps the counts within their limits.
-use Rattle.std.proofs.Common.{◌≡◌, refl, ℕ, ◌+◌, ◌≤◌, List, [], ◌∷◌, ◌++◌, length, Bool, true, false, cond, ◌||◌, ltb, Option, Some, None}
+use Rattle.std.proofs.Common.{◌≡◌, refl, ℕ, ◌+◌, ◌≤◌, arith, List, [], ◌∷◌, ◌++◌, length, Bool, true, false, cond, ◌||◌, ltb, Option, Some, None}
 use Rattle.std.specs.List.{find}
 use Rattle.std.proofs.lemmas.Bool.{ltb-false}
 use Rattle.at_value.specs.Widths as widths
@@ -103,3 +103,62 @@ pub few_texts : (t : Texts) → are_too_many t ≡ false → (length t.names ≤
 few_texts t h =
     let k = or-false (ltb widths.names (length t.names)) (ltb limits.most_variables (length t.vars)) h in
     (ltb-false _ _ k.0, ltb-false _ _ k.1)
+
+-- Where a line begins or ends a block, so does the count of bytes.
+
+ending_bytes : (kind : block_kind.BlockKind) (s : State) → (ending kind s).bytes ≡ s.bytes
+ending_bytes block_kinds.Func s = refl
+ending_bytes block_kinds.Main s = refl
+ending_bytes block_kinds.Thread s = refl
+ending_bytes block_kinds.Finally s = refl
+
+ended_bytes : (stage : stage.Stage) (s : State) → (ended stage s).bytes ≡ s.bytes
+ended_bytes (stages.Within kind section) s = ending_bytes kind s
+ended_bytes stages.Header s = refl
+ended_bytes stages.Opening s = refl
+ended_bytes stages.Functions s = refl
+ended_bytes stages.Ending s = refl
+ended_bytes stages.Closed s = refl
+
+led_bytes : (said : Said) (s : State) → (led_by said s).bytes ≡ s.bytes
+led_bytes (shapes.budget z) s = refl
+led_bytes (shapes.func f) s = refl
+led_bytes shapes.main s = refl
+led_bytes shapes.thread s = refl
+led_bytes shapes.finally s = refl
+led_bytes shapes.end s = ended_bytes s.stage s
+led_bytes (shapes.begin r q) s = refl
+led_bytes shapes.finish s = refl
+led_bytes (shapes.class c above) s = refl
+led_bytes (shapes.bases c above) s = refl
+led_bytes (shapes.put c x v) s = refl
+led_bytes (shapes.cut c x) s = refl
+led_bytes (shapes.new a c v) s = refl
+led_bytes (shapes.set r x v) s = refl
+led_bytes (shapes.del r x) s = refl
+led_bytes (shapes.get r x) s = refl
+led_bytes (shapes.turn r c) s = refl
+led_bytes (shapes.share r q) s = refl
+led_bytes (shapes.super_read c r x) s = refl
+led_bytes (shapes.special r x) s = refl
+led_bytes (shapes.classof r) s = refl
+led_bytes (shapes.mro c) s = refl
+led_bytes (shapes.call r x v) s = refl
+led_bytes (shapes.super_call c r x v) s = refl
+led_bytes (shapes.bind a v) s = refl
+led_bytes (shapes.result v) s = refl
+led_bytes shapes.checkpoint s = refl
+
+said_bytes : (o : Option Said) (s : State) → (after_said o s).bytes ≡ s.bytes
+said_bytes None s = refl
+said_bytes (Some said) s = led_bytes said (with_said said s)
+
+-- after a line its bytes are counted
+pub after_bytes : (s : State) (line : List ℕ) → (after s line).bytes ≡ s.bytes + length line
+after_bytes s line = said_bytes (said_in (read_words s line)) (record s { stage = past_header s.stage; bytes = s.bytes + length line })
+
+-- where a line has no offence, the bytes up to it are within their limit
+pub bytes_within : (s : State) (line : List ℕ) → cause_of s line ≡ None → (after s line).bytes ≤ limits.most_bytes
+bytes_within s line clean =
+    let few : s.bytes + length line ≤ limits.most_bytes = ltb-false limits.most_bytes (s.bytes + length line) (or-false _ _ (or-false _ _ (or-false _ _ (no_limit s line clean)).0).0).0 in
+    omega (arith, after_bytes s line)

@@ -31,7 +31,7 @@ use Rattle.at_script.proofs.Numbered.{EachBelow, few_of}
 use Rattle.at_script.proofs.Begun.{IsBegun, at_most, begun_after}
 use Rattle.at_script.proofs.DeclaredBelow as declared_below_lemmas
 use Rattle.at_script.proofs.Outcomes.{chosen}
-use Rattle.at_script.proofs.Registers.{register_absent}
+use Rattle.at_script.proofs.Registers.{unfree, reserved_absent}
 use Rattle.at_script.proofs.StatementLines.{answered, is_over, cause_said}
 use Rattle.at_script.proofs.BlockLines.{keyword_line, limited}
 use Rattle.at_script.proofs.Extended.{Extends, extends_itself}
@@ -150,22 +150,22 @@ lines_are number s (line ∷ lines) fine =
 
 -- before the first line the state is fine
 pub fine_before : (lines : List (List ℕ)) → IsFine (before_all lines)
-fine_before lines = record { names = omega arith; vars = omega arith; begun = omega arith; registers = λ w is. register_absent w is (codes "func") lines [] refl }
+fine_before lines = record { names = omega arith; vars = omega arith; begun = omega arith; registers = λ w is. reserved_absent w (unfree w is) (codes "func") lines [] refl }
 
 -- what the text says after its last line
 abbrev pub last_state : List ℕ → State
 last_state text = fold after (before_all (lines_of text)) (lines_of text)
 
-none_first : {A : Type 0} (o rest : Option A) → or o rest ≡ None → (o ≡ None) × (rest ≡ None)
+pub none_first : {A : Type 0} (o rest : Option A) → or o rest ≡ None → (o ≡ None) × (rest ≡ None)
 none_first None rest e = (refl, e)
 none_first (Some x) rest e = cc
 
-unmapped_none : {A B : Type 0} (f : A → B) (o : Option A) → option_map f o ≡ None → o ≡ None
+pub unmapped_none : {A B : Type 0} (f : A → B) (o : Option A) → option_map f o ≡ None → o ≡ None
 unmapped_none f None e = refl
 unmapped_none f (Some x) e = cc
 
 -- lines leave the classes and functions as they are declared
-fold_texts : (lines : List (List ℕ)) (s : State) → ((fold after s lines).texts.classes ≡ s.texts.classes) × ((fold after s lines).texts.funcs ≡ s.texts.funcs)
+pub fold_texts : (lines : List (List ℕ)) (s : State) → ((fold after s lines).texts.classes ≡ s.texts.classes) × ((fold after s lines).texts.funcs ≡ s.texts.funcs)
 fold_texts [] s = (refl, refl)
 fold_texts (line ∷ lines) s =
     let k = fold_texts lines (after s line) in

@@ -25,7 +25,10 @@ mod tests;
 mod word;
 
 pub use fault::{Cause, ReadFault};
-pub use laws::{nothing_behind_counts, offence_is_the_first, scripts_have_no_offence};
+pub use laws::{
+    names_are_told_apart, nothing_behind_counts, offence_is_the_first, scripts_are_short,
+    scripts_have_no_offence,
+};
 pub use reader::read;
 pub use script::Script;
 pub use stmt::{Block, Operand, Stmt, Target};

@@ -7,6 +7,7 @@ use Rattle.at_value.specs.declared.value.Value.{Value}
 use Rattle.at_model.specs.declared.last.ClassEnd.{ClassEnd}
 use Rattle.at_model.specs.declared.last.ObjEnd.{ObjEnd}
 use Rattle.at_script.specs.Parts.{ScriptParts}
+use Rattle.at_text.specs.Words as words
 use Rattle.at_text.specs.Values.{text_at, object_text, class_item, classes_text, value_item}
 
 -- the pairs with one more, before the first whose name isn't less by bytes
@@ -33,11 +34,11 @@ own_text s own = flat_map (pair_text s) (by_bytes s own)
 
 -- a class: its order and its own names
 abbrev pub class_end_text : ScriptParts → ClassEnd → List ℕ
-class_end_text s end = codes "class " ++ text_at s.classes end.class ++ codes " =" ++ classes_text s end.order ++ codes "\n" ++ own_text s end.own
+class_end_text s end = words.class_word ++ text_at s.classes end.class ++ codes " =" ++ classes_text s end.order ++ codes "\n" ++ own_text s end.own
 
 -- an object: its class and its names
 abbrev pub object_end_text : ScriptParts → ℕ → ObjEnd → List ℕ
-object_end_text s o end = codes "object " ++ object_text o ++ class_item s end.class ++ codes "\n" ++ own_text s end.own
+object_end_text s o end = words.object_word ++ object_text o ++ class_item s end.class ++ codes "\n" ++ own_text s end.own
 
 -- the objects, from this number on
 abbrev pub object_ends_text : ScriptParts → ℕ → List ObjEnd → List ℕ

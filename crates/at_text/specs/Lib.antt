@@ -5,3 +5,11 @@ pub mod Last
 pub mod Order
 pub mod Transcript
 pub mod Printable
+pub mod Words
+pub mod Readers
+pub mod ReadValues
+pub mod ReadLines
+pub mod ReadLast
+pub mod Bare
+pub mod Laws
+pub mod PrintableExample

@@ -6,6 +6,7 @@ use Rattle.at_value.specs.Parts.{PropertyParts}
 use Rattle.at_value.specs.declared.value.Value as value
 use Rattle.at_value.specs.declared.value.Value.TheVariants.{Nothing, Int, Text, Func, Prop, Static, ClassM, Class, Obj}
 use Rattle.at_script.specs.Parts.{ScriptParts}
+use Rattle.at_text.specs.Words as words
 
 -- the text of a number, and nothing where there is none
 abbrev pub text_at : List (List ℕ) → ℕ → List ℕ
@@ -43,17 +44,17 @@ part_text s (Some f) = text_at s.funcs f
 
 -- a property: its getter, setter and deleter
 abbrev pub property_text : ScriptParts → PropertyParts → List ℕ
-property_text s p = codes "prop:" ++ part_text s p.get ++ codes "," ++ part_text s p.set ++ codes "," ++ part_text s p.del
+property_text s p = words.prop_word ++ part_text s p.get ++ codes "," ++ part_text s p.set ++ codes "," ++ part_text s p.del
 
 -- A value, as scripts write it; an object, which none writes, is `#N`.
 abbrev pub value_text : ScriptParts → value.Value → List ℕ
-value_text s Nothing = codes "none"
+value_text s Nothing = words.none_word
 value_text s (Int z) = signed_decimal z
 value_text s (Text x) = codes "\"" ++ text_at s.names x ++ codes "\""
 value_text s (Func f) = text_at s.funcs f
 value_text s (Prop p) = property_text s p
-value_text s (Static f) = codes "static:" ++ text_at s.funcs f
-value_text s (ClassM f) = codes "classm:" ++ text_at s.funcs f
+value_text s (Static f) = words.static_word ++ text_at s.funcs f
+value_text s (ClassM f) = words.classm_word ++ text_at s.funcs f
 value_text s (Class c) = text_at s.classes c
 value_text s (Obj o) = object_text o
 

@@ -1,7 +1,9 @@
 //! The text of a transcript: what a run did, written in the words of its script.
 #![tactic(auto)]
 
+pub mod examples;
 mod last;
+pub mod laws;
 mod line;
 mod operation;
 mod order;

@@ -3,7 +3,7 @@ ghost use Rattle.std.specs.Prelude.{◌<◌};
 
 mod words;
 
-use crate::{PrintFault, print};
+use crate::{PrintFault, examples, laws, print};
 use at_line::{Line, LineOp, LineReply, Ran, What};
 use at_model::{ClassEnd, Final, ObjEnd};
 use at_script::read;
@@ -307,5 +307,12 @@ fn own_names_stand_by_their_bytes(rt: HostRuntime) -> Result<(), Fail> {
 fn faults_are_told_in_words(rt: HostRuntime) -> Result<(), Fail> {
     let text = format!(in rt.alloc(); "{}, {}", PrintFault::NoMemory, PrintFault::WriteFault)?;
     assert_eq!(rt; text.as_str(), "out of memory, the output failed");
+    Ok(())
+}
+
+#[test]
+fn laws_and_examples() -> Result<(), Fail> {
+    laws::text_is_one_to_one();
+    examples::a_run_that_no_script_makes();
     Ok(())
 }

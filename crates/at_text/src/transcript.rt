@@ -85,7 +85,7 @@ fn put_lines<K: Sink>(pen: &mut Pen<'_, K>, names: &Script, lines: &Lines)
 /// Prints the transcript of a run: the bytes of its script, its lines and its final namespaces.
 ///
 /// The names are those of the script; one that it doesn't have is printed as nothing. It prints every run; those that
-/// the text is to tell apart are those of `IsPrintable`. All memory is taken before the first write: for a page of
+/// the text tells apart are those of `IsPrintable`. All memory is taken before the first write: for a page of
 /// 65,536 bytes, for the order of all names and for the names of one namespace.
 pub fn print<K: Sink>(
     alloc: Global,

@@ -1,0 +1,103 @@
+-- private: no public clause cites it. Names and values, as they are read.
+use Rattle.std.specs.Prelude.{ℕ, zero, suc, ◌==◌, Bool, false, ◌&&◌, List, [], ◌∷◌, Option, Some, None, if◌then◌else◌, codes, bytes_eq, pos, negsuc}
+use Rattle.std.specs.Option.{option_map}
+use Rattle.std.specs.List.{list_all}
+use Rattle.at_value.specs.Parts.{PropertyParts}
+use Rattle.at_value.specs.declared.value.Value as value
+use Rattle.at_value.specs.declared.value.Value.TheVariants.{Nothing, Int, Text, Func, Prop, Static, ClassM, Class, Obj}
+use Rattle.at_name.specs.Texts.{place_of}
+use Rattle.at_script.specs.Bytes as bytes
+use Rattle.at_script.specs.Parts.{ScriptParts}
+use Rattle.at_script.specs.Literals.{◌>>=◌}
+use Rattle.at_script.specs.Words.{begins_identifier, is_digit}
+use Rattle.at_text.specs.Words as words
+use Rattle.at_text.specs.Readers.{Reader, Row, nothing, made, both, after, before, choice, run, past_run, begins_run, begins_with, number_of, number_at, name_at, numbered}
+
+-- `#N`
+abbrev pub object_at : Reader ℕ
+object_at = after (codes "#") number_at
+
+-- `#N.x`
+abbrev pub object_attribute_at : ScriptParts → Reader (ℕ × ℕ)
+object_attribute_at s = both (before object_at (codes ".")) (name_at s.names)
+
+-- `C.x`
+abbrev pub class_attribute_at : ScriptParts → Reader (ℕ × ℕ)
+class_attribute_at s = both (before (name_at s.classes) (codes ".")) (name_at s.names)
+
+-- a class, with a blank before it
+abbrev pub class_item_at : ScriptParts → Reader ℕ
+class_item_at s = after (codes " ") (name_at s.classes)
+
+abbrev pub begins_name : List ℕ → Bool
+begins_name [] = false
+begins_name (byte ∷ text) = begins_identifier byte
+
+-- a blank and a name follow
+abbrev pub begins_item : List ℕ → Bool
+begins_item [] = false
+begins_item (byte ∷ text) = byte == bytes.space && begins_name text
+
+-- classes, each with a blank before it
+abbrev pub classes_at : ScriptParts → Reader (List ℕ)
+classes_at s = numbered begins_item (λ _. class_item_at s)
+
+-- a part of a property: its function, or `-`
+abbrev pub part_at : ScriptParts → Reader (Option ℕ)
+part_at s = λ text.
+    if begins_run text then made Some (name_at s.funcs) text else after (codes "-") (nothing None) text
+
+-- what the functions of a property make
+abbrev pub property : (Option ℕ × Option ℕ) × Option ℕ → PropertyParts
+property parts = record { get = parts.0.0; set = parts.0.1; del = parts.1 }
+
+-- `P,P,P`
+abbrev pub property_at : ScriptParts → Reader PropertyParts
+property_at s =
+    made property (both (before (both (before (part_at s) (codes ",")) (part_at s)) (codes ",")) (part_at s))
+
+-- the number after a `-`, which isn't 0
+abbrev pub below_zero : ℕ × List ℕ → Option (value.Value × List ℕ)
+below_zero (zero, text) = None
+below_zero (suc n, text) = Some (Int (negsuc n), text)
+
+abbrev pub negative_at : Reader value.Value
+negative_at = λ text. number_at text >>= below_zero
+
+-- a function or a class, by which of them the place is given
+abbrev pub named : Option ℕ → Option ℕ → Option value.Value
+named (Some f) class = Some (Func f)
+named None (Some c) = Some (Class c)
+named None None = None
+
+-- `none`, a number from 0 on, a function or a class
+abbrev pub worded : ScriptParts → List ℕ → Option value.Value
+worded s word =
+    if bytes_eq word words.none_word
+    then Some Nothing
+    else if list_all is_digit word
+    then option_map (λ n. Int (pos n)) (number_of word)
+    else named (place_of word s.funcs) (place_of word s.classes)
+
+-- values that begin with a byte that no name has
+abbrev pub marked_rows : ScriptParts → List (Row value.Value)
+marked_rows s =
+    (codes "\"", before (made Text (name_at s.names)) (codes "\"")) ∷ (codes "#", made Obj number_at) ∷ (codes "-", negative_at) ∷ []
+
+-- functions that are wrapped
+abbrev pub wrapped_rows : ScriptParts → List (Row value.Value)
+wrapped_rows s =
+    (words.static_word, made Static (name_at s.funcs)) ∷ (words.classm_word, made ClassM (name_at s.funcs)) ∷ (words.prop_word, made Prop (property_at s))
+    ∷ []
+
+unfoldable pub value_at : ScriptParts → Reader value.Value
+value_at s = λ text.
+    if begins_run text
+    then if begins_with bytes.colon (past_run text)
+    then choice (wrapped_rows s) text
+    else option_map (λ v. (v, past_run text)) (worded s (run text))
+    else choice (marked_rows s) text
+
+-- a value, with a blank before it
+abbrev pub value_item_at : ScriptParts → Reader value.Value
+value_item_at s = after (codes " ") (value_at s)
