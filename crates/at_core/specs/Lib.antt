@@ -1,5 +1,6 @@
 pub mod Heads
 pub mod Locks
+pub mod Writes
 pub mod Reads
 pub mod Rule
 pub mod Steps
