@@ -36,3 +36,17 @@ shape_of word = record {
 
 abbrev pub HasDictionary : Shape → Type 0
 HasDictionary shape = shape.layout ≡ dictionary
+
+abbrev pub sequence_of : ℕ → ℕ
+sequence_of word = word % 2 ^ sequence_bits
+
+-- even while nobody writes the object
+abbrev pub IsWhole : ℕ → Type 0
+IsWhole word = word % 2 ≡ 0
+
+abbrev pub IsOpened : ℕ → Type 0
+IsOpened word = word % 2 ≡ 1
+
+-- whole, and its values stand in the inline words
+abbrev pub IsInline : ℕ → Type 0
+IsInline word = IsWhole word × ((shape_of word).layout ≡ inline)
