@@ -16,8 +16,7 @@ use Rattle.at_core.specs.Runs.{Core, Event, lock_take, lock_miss, lock_give, slo
 use Rattle.at_core.proofs.Lists.{each_set}
 use Rattle.at_core.proofs.LockLemmas.{hold_taken, hold_beside, hold_given, hold_kept, holds_parted, holds_child, holds_merged, holds_blank, holds_missed}
 use Rattle.at_core.proofs.Hands.{hands_changed, hands_exchanged, at_end, without_here, without_else}
-use Rattle.at_core.proofs.LivePasses.{number_small}
-use Rattle.at_core.proofs.QuietSteps.{IsQuiet, holds_quiet, load_quiet, online_quiet, offline_quiet, load_moves, own_moves}
+use Rattle.at_core.proofs.QuietSteps.{IsQuiet, holds_quiet, load_quiet, online_quiet, offline_quiet, global_moves, online_moves, offline_moves}
 use Rattle.at_core.proofs.Moves.{take_moves, miss_moves, give_moves, split_moves, join_moves}
 
 same_length : {A : Type 0} (xs : List A) (i : ℕ) (x : A) → length (set xs i x) ≡ length xs
@@ -89,29 +88,22 @@ module _ (opened : World) (limits : Limits) where
   loads_global_keep : (id : ℕ) (a b : Core) → CoreHolds opened limits a → LoadsGlobal id a b → CoreHolds opened limits b
   loads_global_keep id a b h t =
       let w = global_loaded t.view (words_at a global_sequence) in
-      let q = load_quiet t.view (words_at a global_sequence) in
       landed _ b t.after (record {
-        table_holds = load_moves opened limits a.table a.ghost h.table_holds id t.view t.makes.there t.makes.live [] w (words_at a global_sequence) q refl;
-        hands_are = quiet_hands id a t.view w h.hands_are t.makes.there q;
+        table_holds = global_moves opened limits a.table a.ghost h.table_holds id t.view t.makes.there t.makes.live [];
+        hands_are = quiet_hands id a t.view w h.hands_are t.makes.there (load_quiet t.view (words_at a global_sequence));
       })
 
   goes_online_keep : (id : ℕ) (a b : Core) → CoreHolds opened limits a → GoesOnline id a b → CoreHolds opened limits b
-  goes_online_keep id a b h t =
-      let small = number_small h.table_holds.parts id t.view t.makes.there t.makes.live in
-      let w = gone_online t.view in
-      landed _ b t.after (record {
-        table_holds = own_moves opened limits a.table a.ghost h.table_holds id t.view t.makes.there t.makes.live [] w t.view.who.number t.view.tags.global small (online_quiet t.view);
-        hands_are = quiet_hands id a t.view w h.hands_are t.makes.there (online_quiet t.view);
-      })
+  goes_online_keep id a b h t = landed _ b t.after (record {
+    table_holds = online_moves opened limits a.table a.ghost h.table_holds id t.view t.makes.there t.makes.live [] t.asked.loaded;
+    hands_are = quiet_hands id a t.view (gone_online t.view) h.hands_are t.makes.there (online_quiet t.view);
+  })
 
   goes_offline_keep : (id : ℕ) (a b : Core) → CoreHolds opened limits a → GoesOffline id a b → CoreHolds opened limits b
-  goes_offline_keep id a b h t =
-      let small = number_small h.table_holds.parts id t.view t.makes.there t.makes.live in
-      let w = gone_offline t.view in
-      landed _ b t.after (record {
-        table_holds = own_moves opened limits a.table a.ghost h.table_holds id t.view t.makes.there t.makes.live [] w t.view.who.number 0 small (offline_quiet t.view);
-        hands_are = quiet_hands id a t.view w h.hands_are t.makes.there (offline_quiet t.view);
-      })
+  goes_offline_keep id a b h t = landed _ b t.after (record {
+    table_holds = offline_moves opened limits a.table a.ghost h.table_holds id t.view t.makes.there t.makes.live [];
+    hands_are = quiet_hands id a t.view (gone_offline t.view) h.hands_are t.makes.there (offline_quiet t.view);
+  })
 
   goes_keeps : (event : Event) (a b : Core) → CoreHolds opened limits a → Goes opened event a b → CoreHolds opened limits b
   goes_keeps (lock_take id l) a b h t = takes_keep id l a b h t

@@ -3,12 +3,14 @@ pub mod Prefixes
 pub mod WordLemmas
 pub mod LockLemmas
 pub mod Parts
+pub mod HeadFrames
 pub mod Taking
 pub mod Giving
 pub mod Counts
 pub mod HandLemmas
 pub mod Splitting
 pub mod Joining
+pub mod SequenceSteps
 pub mod QuietSteps
 pub mod Opening
 pub mod Hands

@@ -13,7 +13,7 @@ use Rattle.at_view.specs.Words.{Words, updated, is_same, place, global_sequence}
 use Rattle.at_core.specs.declared.lock.Lock as lock
 use Rattle.at_core.specs.declared.lock.Lock.TheVariants as locks
 use Rattle.at_core.specs.Locks.{lock_word, slot_of, hold_at, hold_of, holds, copy_at, IsUnchanged}
-use Rattle.at_core.specs.Rule.{heads_of, types_words, row_words}
+use Rattle.at_core.specs.Rule.{heads_of, keys_of, values_of, own_sequences_of, types_words, row_words}
 use Rattle.at_core.specs.Steps.{Moment, marked, hold_from, taken, missed, let_go, given, parted, child, merged}
 use Rattle.at_core.proofs.WordLemmas.{updated_else}
 
@@ -55,6 +55,18 @@ same_heads words (locks.Row o) n = refl
 pub same_global : (words : Words) (l : lock.Lock) (n : ℕ) → updated words (lock_word l) n global_sequence ≡ words global_sequence
 same_global words locks.Types n = refl
 same_global words (locks.Row o) n = refl
+
+pub same_keys : (words : Words) (l : lock.Lock) (n : ℕ) → keys_of (updated words (lock_word l) n) ≡ keys_of words
+same_keys words locks.Types n = refl
+same_keys words (locks.Row o) n = refl
+
+pub same_values : (words : Words) (l : lock.Lock) (n : ℕ) → values_of (updated words (lock_word l) n) ≡ values_of words
+same_values words locks.Types n = refl
+same_values words (locks.Row o) n = refl
+
+pub same_sequences : (words : Words) (l : lock.Lock) (n : ℕ) → own_sequences_of (updated words (lock_word l) n) ≡ own_sequences_of words
+same_sequences words locks.Types n = refl
+same_sequences words (locks.Row o) n = refl
 
 pub same_types : (words : Words) (l : lock.Lock) (n : ℕ) → types_words (updated words (lock_word l) n) ≡ types_words words
 same_types words locks.Types n = refl
