@@ -12,6 +12,7 @@ pub mod Splitting
 pub mod Joining
 pub mod SequenceSteps
 pub mod QuietSteps
+pub mod Looking
 pub mod Opening
 pub mod Hands
 pub mod Moves

@@ -1,4 +1,4 @@
--- Steps on the sequences keep the rule: they change what the part on sequences reads, and leave the others.
+-- Steps that leave all locks and writes keep the rule: loads, and stores of words that are a pass's own.
 use Rattle.std.proofs.Common.{◌≡◌, ◌≢◌, ℕ, ◌<◌, ◌≤◌, true, false, true≢false, IsTrue, List, [], map, set, ne_eqb, refl, sym, ap, ◌∙◌, subst, arith, length-set}
 use Rattle.std.specs.Prelude.{All}
 use Rattle.std.proofs.lemmas.List.Elements.{All-nil}
@@ -11,19 +11,20 @@ use Rattle.at_value.specs.declared.limits.Limits.{Limits}
 use Rattle.at_model.specs.World.{World}
 use Rattle.at_value.specs.declared.operation.Op as op
 use Rattle.at_view.specs.declared.view.View.{View}
-use Rattle.at_view.specs.Counts.{passes}
-use Rattle.at_view.specs.Words.{Words, is_there, number_of, global_sequence, own_sequence, updated}
+use Rattle.at_view.specs.Counts.{passes, intent_words}
+use Rattle.at_view.specs.Words.{Word, Words, is_there, number_of, place, intent, global_sequence, own_sequence, updated}
 use Rattle.at_core.specs.declared.lock.Lock as lock
 use Rattle.at_core.specs.declared.lock.Lock.TheVariants as locks
 use Rattle.at_core.specs.Locks.{lock_word, slot_of, hold_at, holds, copy_at}
 use Rattle.at_core.specs.Looks.{IsBacked}
-use Rattle.at_core.specs.Reads.{holder_read, kept_read, births_of, looks_read, SequenceRead, sequence_read}
-use Rattle.at_core.specs.Rule.{Slot, Board, Ghost, Parts, Holds, LookRule, SequenceRule, heads_of, keys_of, own_sequences_of, words_of}
+use Rattle.at_core.specs.Reads.{holder_read, kept_read, births_of, known_read, looks_read, SequenceRead, sequence_read}
+use Rattle.at_core.specs.Rule.{Slot, Board, Ghost, Parts, Holds, KnownRule, LookRule, SequenceRule, heads_of, keys_of, own_sequences_of, words_of}
 use Rattle.at_core.specs.Steps.{global_loaded, gone_online, gone_offline}
+use Rattle.at_core.specs.PlaceSteps.{intent_stored, unwritten}
 use Rattle.at_core.proofs.Lists.{each_set, map_back}
 use Rattle.at_core.proofs.LivePasses.{one_number, number_small}
 use Rattle.at_core.proofs.SequenceSteps.{sequence_loaded, sequence_stored}
-use Rattle.at_core.proofs.Parts.{changed, Alike, Leaves, leaves_all, known_left, looks_left, alike_keeps}
+use Rattle.at_core.proofs.Parts.{changed, Alike, Leaves, leaves_all, known_left, looks_left, sequence_left, alike_keeps}
 use Rattle.at_core.proofs.WordLemmas.{updated_here, updated_else, stored, said, reloaded}
 
 -- what a step leaves that changes no lock, write or join
@@ -31,7 +32,7 @@ pub record IsQuiet (v w : View) : Type 0 where
   pub who : w.who ≡ v.who
   pub history : w.history ≡ v.history
   pub joined : w.joined ≡ v.joined
-  pub intent : w.intent ≡ v.intent
+  pub fresh : w.intent.fresh ≡ v.intent.fresh
   pub types : w.types ≡ v.types
   pub holds : w.holds ≡ v.holds
   pub rows : w.rows ≡ v.rows
@@ -51,7 +52,7 @@ holds_quiet v w q l = ap (λ r. r.held) (quiet_holder v w q l)
 quiet_alike : (v w : View) → IsQuiet v w → Alike v w
 quiet_alike v w q = record {
   past = λ i. record { seen = (q.history i).seen; own = (q.history i).own };
-  fresh = ap (λ n. n.fresh) q.intent;
+  fresh = q.fresh;
   kin = λ i. record { live = (q.who i).live; birth = (q.history i).birth; children = (q.who i).children; kept = births_of (q.kept i) };
   number = λ i. record { live = (q.who i).live; number = (q.who i).number };
   holder = quiet_holder v w q;
@@ -63,13 +64,27 @@ quiet_alike v w q = record {
 }
 
 pub load_quiet : (v : View) (n : ℕ) → IsQuiet v (global_loaded v n)
-load_quiet v n = record { who = refl; history = refl; joined = refl; intent = refl; types = refl; holds = refl; rows = refl; kept = refl }
+load_quiet v n = record { who = refl; history = refl; joined = refl; fresh = refl; types = refl; holds = refl; rows = refl; kept = refl }
 
 pub online_quiet : (v : View) → IsQuiet v (gone_online v)
-online_quiet v = record { who = refl; history = refl; joined = refl; intent = refl; types = refl; holds = refl; rows = refl; kept = refl }
+online_quiet v = record { who = refl; history = refl; joined = refl; fresh = refl; types = refl; holds = refl; rows = refl; kept = refl }
 
 pub offline_quiet : (v : View) → IsQuiet v (gone_offline v)
-offline_quiet v = record { who = refl; history = refl; joined = refl; intent = refl; types = refl; holds = refl; rows = refl; kept = refl }
+offline_quiet v = record { who = refl; history = refl; joined = refl; fresh = refl; types = refl; holds = refl; rows = refl; kept = refl }
+
+pub unwritten_quiet : (v : View) (n : ℕ) → IsQuiet v (unwritten v n)
+unwritten_quiet v n = record { who = refl; history = refl; joined = refl; fresh = refl; types = refl; holds = refl; rows = refl; kept = refl }
+
+pub intent_quiet : (v : View) (j n : ℕ) → IsQuiet v (intent_stored v j n)
+intent_quiet v j n = record { who = refl; history = refl; joined = refl; fresh = refl; types = refl; holds = refl; rows = refl; kept = refl }
+
+-- a word of an intended operation is stored
+intent_leaves : (words : Words) (q j n : ℕ) → Leaves words (updated words (intent q j) n)
+intent_leaves words q j n = record { count = refl; locks = λ l. locks_same l; heads = refl; row_locks = refl; keys = refl; values = refl; types = refl; rows = λ o. refl }
+  where
+    locks_same : (l : lock.Lock) → words (lock_word l) ≡ updated words (intent q j) n (lock_word l)
+    locks_same locks.Types = refl
+    locks_same (locks.Row o) = refl
 
 -- the own sequence of a pass is stored
 own_leaves : (words : Words) (q n : ℕ) → Leaves words (updated words (own_sequence q) n)
@@ -94,21 +109,59 @@ module _ (opened : World) (limits : Limits) (s : Board) (g : Ghost) (h : Holds o
       let x = map_back sequence_read s.views j u e in
       ne (one_number h.parts j id x.0 v x.1 at (ap (λ (r : SequenceRead). r.live) x.2 ∙ lives) live (ap (λ (r : SequenceRead). r.number) x.2 ∙ same))
 
+  -- a word is loaded, and what the view learns by it is right
+  pub load_moves : (a : Word) → IsTrue (is_there a) → (w : View) → IsQuiet v w
+      → KnownRule (keys_of (words_of s.words)) (map known_read (set s.views id w))
+      → LookRule opened (heads_of (words_of s.words)) (keys_of (words_of s.words)) g.history (map looks_read (set s.views id w))
+      → SequenceRule (words_of s.words global_sequence) (own_sequences_of (words_of s.words)) (map sequence_read (set s.views id w))
+      → Holds opened limits (stepped s (number_of a) (words_of s.words a) id hand w keeps) g
+  load_moves a there w q known looks sequence =
+      let n : ℕ = words_of s.words a in
+      record {
+        words_are = length-set s.words (number_of a) n ∙ h.words_are;
+        slots_are = h.slots_are;
+        small = h.small;
+        parts = subst (λ (ws : Words). Parts opened limits ws s.homes (set s.views id w) g)
+            (sym (ap (λ (k : ℕ). words_of (set s.words (number_of a) k)) (said s.words a there) ∙ reloaded s.words (number_of a)))
+            (alike_keeps opened limits (words_of s.words) (words_of s.words) s.homes s.views g id v w h.parts at (quiet_alike v w q) (ap (λ y. y.live) q.who ∙ live) (leaves_all (words_of s.words)) known looks sequence);
+      }
+
+  -- what is known, looked at and known of sequences is as it was
+  pub known_same : (w : View) → w.known ≡ v.known → KnownRule (keys_of (words_of s.words)) (map known_read (set s.views id w))
+  known_same w same = known_left s.views id v w at (keys_of (words_of s.words)) same h.parts.headed.known
+
+  pub looks_same : (w : View) → w.looks ≡ v.looks → LookRule opened (heads_of (words_of s.words)) (keys_of (words_of s.words)) g.history (map looks_read (set s.views id w))
+  looks_same w same = looks_left s.views id v w at opened (heads_of (words_of s.words)) (keys_of (words_of s.words)) g.history same h.parts.headed.looks
+
+  pub sequence_same : (w : View) → sequence_read w ≡ sequence_read v → SequenceRule (words_of s.words global_sequence) (own_sequences_of (words_of s.words)) (map sequence_read (set s.views id w))
+  sequence_same w same = sequence_left s.views id v w at (words_of s.words global_sequence) (own_sequences_of (words_of s.words)) same h.parts.sequence
+
   pub global_moves : Holds opened limits (stepped s (number_of global_sequence) (words_of s.words global_sequence) id hand (global_loaded v (words_of s.words global_sequence)) keeps) g
   global_moves =
       let n : ℕ = words_of s.words global_sequence in
       let w = global_loaded v n in
+      load_moves global_sequence refl w (load_quiet v n) (known_same w refl) (looks_same w refl)
+      (changed sequence_read (SequenceRule n (own_sequences_of (words_of s.words))) s.views id w
+      (sequence_loaded n (own_sequences_of (words_of s.words)) (map sequence_read s.views) h.parts.sequence id (sequence_read v) (sequence_read w) (at_map sequence_read s.views id v at) (record { live = refl; number = refl }) refl (omega arith)))
+
+  -- an exchange of the place fails
+  pub unwritten_moves : Holds opened limits (stepped s (number_of place) (words_of s.words place) id hand (unwritten v (words_of s.words place)) keeps) g
+  unwritten_moves =
+      let w = unwritten v (words_of s.words place) in
+      load_moves place refl w (unwritten_quiet v (words_of s.words place)) (known_same w refl) (looks_same w refl) (sequence_same w refl)
+
+  -- a word of the intended operation is stored
+  pub intent_moves : (j n : ℕ) → j < intent_words → v.who.number < passes → Holds opened limits (stepped s (number_of (intent v.who.number j)) n id hand (intent_stored v j n) keeps) g
+  intent_moves j n less small =
+      let there : IsTrue (is_there (intent v.who.number j)) = grind (arith, nat_tests, small, less) in
+      let w = intent_stored v j n in
       record {
-        words_are = length-set s.words (number_of global_sequence) n ∙ h.words_are;
+        words_are = length-set s.words (number_of (intent v.who.number j)) n ∙ h.words_are;
         slots_are = h.slots_are;
         small = h.small;
-        parts = subst (λ (ws : Words). Parts opened limits ws s.homes (set s.views id w) g)
-            (sym (ap (λ (k : ℕ). words_of (set s.words (number_of global_sequence) k)) (said s.words global_sequence refl) ∙ reloaded s.words (number_of global_sequence)))
-            (alike_keeps opened limits (words_of s.words) (words_of s.words) s.homes s.views g id v w h.parts at (quiet_alike v w (load_quiet v n)) live (leaves_all (words_of s.words))
-            (known_left s.views id v w at (keys_of (words_of s.words)) refl h.parts.headed.known)
-            (looks_left s.views id v w at opened (heads_of (words_of s.words)) (keys_of (words_of s.words)) g.history refl h.parts.headed.looks)
-            (changed sequence_read (SequenceRule n (own_sequences_of (words_of s.words))) s.views id w
-            (sequence_loaded n (own_sequences_of (words_of s.words)) (map sequence_read s.views) h.parts.sequence id (sequence_read v) (sequence_read w) (at_map sequence_read s.views id v at) (record { live = refl; number = refl }) refl (omega arith))));
+        parts = subst (λ (ws : Words). Parts opened limits ws s.homes (set s.views id w) g) (sym (stored s.words h.words_are (intent v.who.number j) n there))
+            (alike_keeps opened limits (words_of s.words) (updated (words_of s.words) (intent v.who.number j) n) s.homes s.views g id v w h.parts at (quiet_alike v w (intent_quiet v j n)) live
+            (intent_leaves (words_of s.words) v.who.number j n) (known_same w refl) (looks_same w refl) (sequence_same w refl));
       }
 
   -- the pass stores its own sequence, and forgets what it looked at
