@@ -18,6 +18,8 @@ use Rattle.at_core.proofs.LockLemmas.{hold_taken, hold_beside, hold_given, hold_
 use Rattle.at_core.proofs.Hands.{hands_changed, hands_exchanged, at_end, without_here, without_else}
 use Rattle.at_core.proofs.QuietSteps.{IsQuiet, holds_quiet, load_quiet, online_quiet, offline_quiet, global_moves, online_moves, offline_moves}
 use Rattle.at_core.proofs.Looking.{head_load_moves, inline_load_moves, key_load_moves}
+use Rattle.at_core.proofs.Placing.{place_moves}
+use Rattle.at_core.proofs.HeadStoring.{head_moves}
 use Rattle.at_core.proofs.Moves.{take_moves, miss_moves, give_moves, split_moves, join_moves}
 
 same_length : {A : Type 0} (xs : List A) (i : ℕ) (x : A) → length (set xs i x) ≡ length xs

@@ -13,6 +13,8 @@ pub mod Joining
 pub mod SequenceSteps
 pub mod QuietSteps
 pub mod Looking
+pub mod Placing
+pub mod HeadStoring
 pub mod Opening
 pub mod Hands
 pub mod Moves
