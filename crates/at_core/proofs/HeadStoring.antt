@@ -1,6 +1,6 @@
 -- The head of an object is stored by who holds its row: it is opened, or closed.
 use Rattle.std.proofs.Common.{◌≡◌, ◌≢◌, ◌⊎◌, inl, inr, ℕ, suc, ◌+◌, ◌<◌, ◌≤◌, ◌==◌, Bool, true, false, true≢false, IsTrue, List, [], ◌∷◌, map, set, get_or, ne_eqb, eq-eqb, refl, sym, ap, ◌∙◌, subst, ⊎_elim, arith, length-set}
-use Rattle.std.specs.Prelude.{Some, All, slice_index, slice_index_or, slice_get, if◌then◌else◌}
+use Rattle.std.specs.Prelude.{Some, None, All, slice_index, slice_index_or, slice_get, if◌then◌else◌}
 use Rattle.std.proofs.lemmas.Bool.Decides.{nat_tests}
 use Rattle.std.proofs.lemmas.List.Elements.{All-weaker}
 use mathlib.Core.Option.{some}
@@ -29,12 +29,13 @@ use Rattle.at_core.specs.Locks.{lock_word, slot_of, hold_of, holds, copy_at}
 use Rattle.at_core.specs.Looks.{IsBacked}
 use Rattle.at_core.specs.Reads.{past_read, fresh_read, kin_read, number_read, holder_read, kept_read, types_read, RowRead, row_read, OpenRead, open_read, looks_read, join_read, limit_read}
 use Rattle.at_core.specs.Rule.{Slot, Board, Homes, Each, HistoryRule, RoomRule, KinRule, LockRule, NumberRule, SlotRule, KeptRule, TypesRule, RowRule, JoinRule, LimitRule, OpenRule, HeadRule, LookRule, RowsAre, IsLock, Ghost, HeadParts, Parts, Holds, words_of, heads_of, row_locks_of, keys_of, values_of, own_sequences_of, types_words, row_words, shape_under}
-use Rattle.at_core.specs.Steps.{copied_heads}
+use Rattle.at_core.specs.Steps.{mark, copied_heads}
 use Rattle.at_core.proofs.Lists.{each_set, each_other, map_back, map_set}
 use Rattle.at_core.proofs.LockLemmas.{copy_here, copy_else}
 use Rattle.at_core.proofs.WordLemmas.{updated_here, updated_else, stored}
 use Rattle.at_core.proofs.HeadFrames.{odd_even}
-use Rattle.at_core.proofs.Parts.{left_alone, changed, holder_is, spent_set, known_left, sequence_left, open_same}
+use Rattle.at_core.proofs.Parts.{left_alone, known_left}
+use Rattle.at_core.proofs.RowSteps.{head_of_row, lock_stands, row_mine, open_left, row_keeps}
 
 -- What is asked of the new head, in terms of the table: its sequence is no less, and is above that of the old one where it is whole;
 -- where it is whole it says what its object is, and where it is open it says the class unless the pass has the types too; the
@@ -52,39 +53,27 @@ module _ (opened : World) (limits : Limits) (words : Words) (homes : Homes) (vie
   abbrev w : View
   w = head_stored kind v o n
 
+  abbrev new_words : RowWords
+  new_words = record (copy_at o v.rows) { head = n }
+
   abbrev after : Words
   after = updated words (head o) n
-
-  hold_same : (l : lock.Lock) → hold_of l w ≡ hold_of l v
-  hold_same locks.Types = refl
-  hold_same (locks.Row k) = refl
-
-  holder_same : (l : lock.Lock) → holder_read l w ≡ holder_read l v
-  holder_same l = λ i. record { number = v.who.number; held = (hold_same l i).held }
-
-  kept_same : (l : lock.Lock) → kept_read l w ≡ kept_read l v
-  kept_same l = λ i. record { hold = hold_same l i; seen = v.history.seen; own = v.history.own }
 
   lock_same : (l : lock.Lock) → words (lock_word l) ≡ after (lock_word l)
   lock_same locks.Types = refl
   lock_same (locks.Row k) = refl
+
+  copied : (k : ℕ) → holds (locks.Row k) v ≡ true → copied_heads v k ≡ heads_of words k
+  copied = head_of_row opened limits words homes views g p id v at live o held
+
+  owned : 0 < row_locks_of words o
+  owned = lock_stands opened limits words homes views g p id v at live o held
 
   here : heads_of after o ≡ n
   here = updated_here words (head o) n
 
   else_same : (k : ℕ) → k ≢ o → heads_of after k ≡ heads_of words k
   else_same k ne = updated_else words (head o) (head k) n (ne_eqb k o ne)
-
-  -- the copy of the head is the head
-  copied : (k : ℕ) → holds (locks.Row k) v ≡ true → copied_heads v k ≡ heads_of words k
-  copied k on = ap (λ r. r.head) (p.rows k id (row_read k v) (at_map (row_read k) views id v at) on)
-
-  owned : 0 < row_locks_of words o
-  owned = let m = (p.locks (locks.Row o)).named id (holder_read (locks.Row o) v) (at_map (holder_read (locks.Row o)) views id v at) held in omega arith
-
-  -- nobody else holds the row
-  mine : (j : ℕ) (u : View) → get_elem? views j ≡ some u → holds (locks.Row o) u ≡ true → j ≡ id
-  mine j u e on = holder_is (locks.Row o) (words (lock_word (locks.Row o))) views id v (p.locks (locks.Row o)) at held j u e on
 
   slots_after : (l : lock.Lock) → IsLock l → SlotRule limits (replay opened g.history) g.lists (shape_under (heads_of after) l) l (after (lock_word l)) (get_elem? homes (slot_of l))
   slots_after locks.Types is = p.slots locks.Types is
@@ -105,12 +94,12 @@ module _ (opened : World) (limits : Limits) (words : Words) (homes : Homes) (vie
       (λ (e : k ≡ o). subst (λ (x : ℕ). OpenRule (replay opened g.history) x (heads_of after x) (map (open_read x) (set views id w))) (sym e)
       (subst (λ (x : ℕ). OpenRule (replay opened g.history) o x (map (open_read o) (set views id w))) (sym here) opened_here))
       (λ (ne : k ≢ o). subst (λ (x : ℕ). OpenRule (replay opened g.history) k x (map (open_read k) (set views id w))) (sym (else_same k ne))
-      (left_alone (open_read k) (OpenRule (replay opened g.history) k (heads_of words k)) views id v w at (open_same k v w (holder_same (locks.Row k)) (holder_same locks.Types)) (p.headed.open_are k)))
+      (open_left opened limits words homes views g p id v at live o held new_words (mark kind (head o) None (Some n)) k (heads_of words k) (p.headed.open_are k)))
     where
       opened_here : OpenRule (replay opened g.history) o n (map (open_read o) (set views id w))
       opened_here odd = subst (Each _) (sym (map_set (open_read o) views id w))
           (each_other _ (map (open_read o) views) id (open_read o w)
-          (λ j u ne e row types found. let x = map_back (open_read o) views j u e in absurd (ne (mine j x.0 x.1 (ap (λ (r : OpenRead). r.row) x.2 ∙ row))))
+          (λ j u ne e row types found. let x = map_back (open_read o) views j u e in absurd (ne (row_mine opened limits words homes views g p id v at live o held j x.0 x.1 (ap (λ (r : OpenRead). r.row) x.2 ∙ row))))
           (λ row types found. may.class odd types found))
 
   -- the row of a dictionary has one
@@ -165,50 +154,28 @@ module _ (opened : World) (limits : Limits) (words : Words) (homes : Homes) (vie
   looks_after = left_alone looks_read (LookRule opened (heads_of after) (keys_of words) g.history) views id v w at refl
       (λ i looks e. All-weaker (λ look. IsBacked opened (heads_of words look.object) (keys_of words) g.history look) (λ look. IsBacked opened (heads_of after look.object) (keys_of words) g.history look) backed_after looks (p.headed.looks i looks e))
 
-  abbrev entry : RowCopy
-  entry = record { object = o; words = record (copy_at o v.rows) { head = n } }
-
-  copies_after : (k : ℕ) → RowRule (row_words after k) (map (row_read k) (set views id w))
-  copies_after k = dite (ℕ_discrete k o)
-      (λ (e : k ≡ o). subst (λ (x : ℕ). RowRule (row_words after x) (map (row_read x) (set views id w))) (sym e) copied_here)
-      (λ (ne : k ≢ o).
-      let same : row_words words k ≡ row_words after k = ap (λ (x : ℕ). record { head = x; values = (row_words words k).values }) (sym (else_same k ne)) in
-      subst (λ (x : RowWords). RowRule x (map (row_read k) (set views id w))) same
-      (left_alone (row_read k) (RowRule (row_words words k)) views id v w at (λ i. record { held = (hold_same (locks.Row k) i).held; words = copy_else k entry v.rows ne i }) (p.rows k)))
-    where
-      copied_here : RowRule (row_words after o) (map (row_read o) (set views id w))
-      copied_here = subst (Each _) (sym (map_set (row_read o) views id w))
-          (each_other _ (map (row_read o) views) id (row_read o w)
-          (λ j u ne e on. let x = map_back (row_read o) views j u e in absurd (ne (mine j x.0 x.1 (ap (λ (r : RowRead). r.held) x.2 ∙ on))))
-          (λ on.
-          let was : copy_at o v.rows ≡ row_words words o = p.rows o id (row_read o v) (at_map (row_read o) views id v at) held in
-          copy_here o entry v.rows refl ∙ (ap (λ (r : RowWords). record r { head = n }) was ∙ ap (λ (x : ℕ). record { head = x; values = (row_words words o).values }) (sym here))))
-
   pub head_keeps : Parts opened limits after homes (set views id w) g
-  head_keeps = record {
-    history = left_alone past_read (HistoryRule opened (words place) g.history) views id v w at refl p.history;
-    room = left_alone fresh_read (RoomRule limits.place_max (words place)) views id v w at refl p.room;
-    kin = left_alone kin_read (KinRule g.lists.next_birth) views id v w at refl p.kin;
-    locks = λ l. subst (λ (x : ℕ). LockRule x (map (holder_read l) (set views id w))) (lock_same l) (left_alone (holder_read l) (LockRule (words (lock_word l))) views id v w at (holder_same l) (p.locks l));
-    numbers = left_alone number_read (NumberRule g.lists.numbers) views id v w at refl p.numbers;
-    slots = slots_after;
-    headed = record {
-      heads_are = heads_after;
-      open_are = open_after;
-      rows_are = rows_after;
-      keys = p.headed.keys;
-      cells = p.headed.cells;
-      known = known_left views id v w at (keys_of words) refl p.headed.known;
-      looks = looks_after;
-    };
-    kept = λ l. left_alone (kept_read l) (KeptRule opened l g.history) views id v w at (kept_same l) (p.kept l);
-    types = left_alone types_read (TypesRule g.lists (types_words words)) views id v w at refl p.types;
-    rows = copies_after;
-    joins = left_alone join_read (JoinRule g.history) views id v w at refl p.joins;
-    sequence = sequence_left views id v w at (words global_sequence) (own_sequences_of words) refl p.sequence;
-    limited = left_alone limit_read (LimitRule limits) views id v w at refl p.limited;
-    spent = spent_set views id w p.spent live;
-  }
+  head_keeps = row_keeps opened limits words homes views g p id v at live o held new_words (mark kind (head o) None (Some n)) after
+      (record {
+        count = refl;
+        locks = lock_same;
+        types = refl;
+        global = refl;
+        own = refl;
+        rows = λ k ne. ap (λ (x : ℕ). record { head = x; values = (row_words words k).values }) (sym (else_same k ne));
+      })
+      (let was : copy_at o v.rows ≡ row_words words o = p.rows o id (row_read o v) (at_map (row_read o) views id v at) held in
+      ap (λ (r : RowWords). record r { head = n }) was ∙ ap (λ (x : ℕ). record { head = x; values = (row_words words o).values }) (sym here))
+      slots_after
+      (record {
+        heads_are = heads_after;
+        open_are = open_after;
+        rows_are = rows_after;
+        keys = p.headed.keys;
+        cells = p.headed.cells;
+        known = known_left views id v w at (keys_of words) refl p.headed.known;
+        looks = looks_after;
+      })
 
 -- The rule over the table, after the store
 pub head_moves : (opened : World) (limits : Limits) (s : Board) (g : Ghost) (h : Holds opened limits s g) (id : ℕ) (v : View) (at : get_elem? s.views id ≡ some v) (live : v.who.live ≡ true) (hand : List (ℕ × Slot))

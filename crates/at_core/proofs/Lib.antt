@@ -14,6 +14,7 @@ pub mod SequenceSteps
 pub mod QuietSteps
 pub mod Looking
 pub mod Placing
+pub mod RowSteps
 pub mod HeadStoring
 pub mod Opening
 pub mod Hands
