@@ -20,6 +20,8 @@ use Rattle.at_core.proofs.QuietSteps.{IsQuiet, holds_quiet, load_quiet, online_q
 use Rattle.at_core.proofs.Looking.{head_load_moves, inline_load_moves, key_load_moves}
 use Rattle.at_core.proofs.Placing.{place_moves}
 use Rattle.at_core.proofs.HeadStoring.{head_moves}
+use Rattle.at_core.proofs.InlineStoring.{inline_moves}
+use Rattle.at_core.proofs.Appending.{append_moves}
 use Rattle.at_core.proofs.Moves.{take_moves, miss_moves, give_moves, split_moves, join_moves}
 
 same_length : {A : Type 0} (xs : List A) (i : ℕ) (x : A) → length (set xs i x) ≡ length xs

@@ -1,6 +1,6 @@
 -- What steps on locks, splits and joins leave of the part on heads, keys and inline values.
 use Rattle.std.proofs.Common.{◌≡◌, ◌≢◌, ℕ, zero, suc, ◌<◌, ◌≤◌, Bool, true, false, true≢false, List, [], ◌∷◌, map, set, get_or, eq-eqb, ne_eqb, ◌⊎◌, inl, inr, refl, sym, ap, ◌∙◌, subst, arith}
-use Rattle.std.specs.Prelude.{All, slice_index, if◌then◌else◌}
+use Rattle.std.specs.Prelude.{None, All, slice_index, if◌then◌else◌}
 use Rattle.std.proofs.lemmas.Bool.{cases_lt}
 use Rattle.std.proofs.lemmas.List.Elements.{All-nil}
 use mathlib.Core.Option.{some}
@@ -9,7 +9,8 @@ use native.Mathlib.Decide.{ℕ_discrete}
 use lib.ListN.{get_elem?}
 use Rattle.atomic_table.proofs.Lists.{at_map}
 use Rattle.at_value.specs.declared.operation.Op as op
-use Rattle.at_model.specs.World.{World}
+use Rattle.at_value.specs.Pairs.{value_at}
+use Rattle.at_model.specs.World.{World, Map}
 use Rattle.at_model.specs.History.{replay}
 use Rattle.at_view.specs.declared.view.ClassKeys.{ClassKeys}
 use Rattle.at_view.specs.declared.view.HeadLook.{HeadLook}
@@ -17,7 +18,7 @@ use Rattle.at_view.specs.declared.view.View.{View}
 use Rattle.at_core.specs.declared.lock.Lock as lock
 use Rattle.at_core.specs.declared.lock.Lock.TheVariants as locks
 use Rattle.at_core.specs.Heads.{IsWhole, IsOpened}
-use Rattle.at_core.specs.Inline.{HaveGrown}
+use Rattle.at_core.specs.Inline.{AreKeys, HaveGrown, word_or_zero, AreValuesOf}
 use Rattle.at_core.specs.Locks.{holds}
 use Rattle.at_core.specs.Looks.{keys_at, IsBacked}
 use Rattle.at_core.specs.Reads.{OpenRead, open_read, known_read, looks_read}
@@ -56,6 +57,42 @@ listed_grown n f i used = by_side (cases_lt i n)
     by_side : (i < n) ⊎ (n ≤ i) → f i ≡ get_or (listed n f) i 0
     by_side (inl lt) = sym (listed_at n f i 0 lt)
     by_side (inr le) = absurd (used (listed_past n f i 0 le))
+
+-- one of them is another
+pub listed_set : {A : Type 0} (n : ℕ) (f f' : ℕ → A) (i : ℕ) (x : A) → i < n → f' i ≡ x → ((j : ℕ) → j ≢ i → f' j ≡ f j) → set (listed n f) i x ≡ listed n f'
+listed_set zero f f' i x lt here others = absurd (omega arith)
+listed_set {A} (suc n) f f' zero x lt here others =
+    let rest : (λ j. f (suc j)) ≡ (λ j. f' (suc j)) = λ t j. sym (others (suc j) (λ e. omega arith)) t in
+    λ t. sym here t ∷ listed n (rest t)
+listed_set {A} (suc n) f f' (suc i) x lt here others =
+    let first : f 0 ≡ f' 0 = sym (others 0 (λ e. omega arith)) in
+    let more = listed_set n (λ j. f (suc j)) (λ j. f' (suc j)) i x (omega arith) here (λ j ne. others (suc j) (λ e. ne (omega arith))) in
+    λ t. first t ∷ more t
+
+-- Keys that grow
+
+pub grown_trans : (a b c : ℕ → ℕ) → HaveGrown a b → HaveGrown b c → HaveGrown a c
+grown_trans a b c p q i used = q i (λ z. used (sym (p i used) ∙ z)) ∙ p i used
+
+not_zero : (k n : ℕ) → k ≡ suc n → k ≢ 0
+not_zero k n e z = absurd (omega arith)
+
+pub grown_key : (a b : ℕ → ℕ) (i n : ℕ) → HaveGrown a b → a i ≡ suc n → b i ≡ suc n
+grown_key a b i n p e = p i (not_zero (a i) n e) ∙ e
+
+-- more keys change nothing of what inline values are
+pub values_grow : (pairs : Map) (keys more values : ℕ → ℕ) → AreKeys more → HaveGrown keys more → AreValuesOf pairs keys values → AreValuesOf pairs more values
+values_grow pairs keys more values are grown a = record {
+  under = λ i n e. dite (ℕ_discrete (keys i) 0)
+      (λ (z : keys i ≡ 0).
+      let none : value_at n pairs ≡ None = a.named n (λ j used.
+          let same : j ≡ i = are.distinct j i n (grown_key keys more j n grown used) e in
+          not_zero (keys j) n used (ap keys same ∙ z)) in
+      a.past i z ∙ sym (ap word_or_zero none))
+      (λ (ne : keys i ≢ 0). a.under i n (sym (grown i ne) ∙ e));
+  named = λ n none. a.named n (λ i e. none i (grown_key keys more i n grown e));
+  past = λ i z. dite (ℕ_discrete (keys i) 0) (λ (was : keys i ≡ 0). a.past i was) (λ (ne : keys i ≢ 0). absurd (ne (sym (grown i ne) ∙ z)));
+}
 
 -- Keys that a view knows
 

@@ -16,6 +16,8 @@ pub mod Looking
 pub mod Placing
 pub mod RowSteps
 pub mod HeadStoring
+pub mod InlineStoring
+pub mod Appending
 pub mod Opening
 pub mod Hands
 pub mod Moves
