@@ -1,5 +1,5 @@
 -- What a write leaves as it was, the reply of an operation where what it needs is held, and histories with one write more.
-use Rattle.std.proofs.Common.{◌≡◌, ◌≢◌, ◌∙◌, ap, sym, refl, subst, ℕ, zero, suc, ◌==◌, ◌&&◌, cond, not, length, set, get_or, List, [], ◌∷◌, ◌++◌, Option, Some, None, Bool, true, false, IsTrue, is_some, is_none, leb, slice_get, unwrap_or, length-append, Contains, arith}
+use Rattle.std.proofs.Common.{◌≡◌, ◌≢◌, ◌∙◌, ap, sym, refl, subst, ℕ, zero, suc, ◌+◌, ◌==◌, ◌&&◌, cond, not, length, set, get_or, List, [], ◌∷◌, ◌++◌, Option, Some, None, Bool, true, false, IsTrue, is_some, is_none, leb, slice_get, unwrap_or, length-append, Contains, arith}
 use Rattle.std.proofs.lemmas.Bool.{true≢false, false≢true}
 use Rattle.std.proofs.lemmas.List.{length-set}
 use Rattle.std.proofs.lemmas.Option.{unwrap_or-slice_get}
