@@ -26,3 +26,5 @@ pub mod LivePasses
 pub mod Allowed
 pub mod SomeRun
 pub mod HandOf
+pub mod Written
+pub mod HeldStays

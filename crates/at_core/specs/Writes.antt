@@ -1,7 +1,8 @@
 -- What a write may change of objects and dictionaries, and what it needs of locks for that.
-use Rattle.std.specs.Prelude.{ℕ, ◌≡◌, Bool, true, false, List, [], ◌∷◌, length, Contains}
+use Rattle.std.specs.Prelude.{ℕ, ◌≡◌, Bool, true, false, List, [], ◌∷◌, length, Option, Some, None, slice_get, Contains}
 use Rattle.at_value.specs.declared.operation.Op as op
 use Rattle.at_value.specs.declared.operation.Op.TheVariants as ops
+use Rattle.at_model.specs.declared.rows.Object.{Object}
 use Rattle.at_model.specs.World.{World}
 use Rattle.at_model.specs.Step.{step, is_write}
 use Rattle.at_line.specs.Kept.{rows_of}
@@ -45,6 +46,29 @@ needs_types (ops.Special o n) = false
 needs_types (ops.ClassOf o) = false
 needs_types (ops.Mro c) = false
 
+-- the dictionary that an object names
+abbrev pub dict_named : Option Object → List ℕ
+dict_named None = []
+dict_named (Some found) = found.dict ∷ []
+
+-- the dictionaries whose values an operation replies: that which the object of `o.x` names
+abbrev pub read_by : World → op.Op → List ℕ
+read_by w (ops.NewClass c bases) = []
+read_by w (ops.TypeSet c n v) = []
+read_by w (ops.TypeDel c n) = []
+read_by w (ops.SetBases c bases) = []
+read_by w (ops.New c) = []
+read_by w (ops.Set o n v) = []
+read_by w (ops.Del o n) = []
+read_by w (ops.SetClass o c) = []
+read_by w (ops.Share o p) = []
+read_by w (ops.Get o n) = dict_named (slice_get w.objects o)
+read_by w (ops.TypeGet c n) = []
+read_by w (ops.Super k o n) = []
+read_by w (ops.Special o n) = []
+read_by w (ops.ClassOf o) = []
+read_by w (ops.Mro c) = []
+
 -- What locks say of an operation
 
 -- one that needs no lock of the types leaves what that protects
@@ -57,10 +81,11 @@ LeavesRows =
     (w : World) (operation : op.Op) (o : ℕ) → length w.dicts ≡ length w.objects → ¬ Contains (rows_of w operation) o → ¬ Contains (moved_by w operation) o
     → IsUnchanged (locks.Row o) w (step w operation).world
 
--- Between two worlds the classes and objects are the same, and what the rows of the operation protect.
+-- Between two worlds the classes and objects are the same, and what the rows protect that the operation touches or reads.
 pub record IsHeld (w now : World) (operation : op.Op) : Type 0 where
   pub types : IsUnchanged locks.Types w now
   pub rows : (o : ℕ) → Contains (rows_of w operation) o → IsUnchanged (locks.Row o) w now
+  pub reads : (o : ℕ) → Contains (read_by w operation) o → IsUnchanged (locks.Row o) w now
 
 -- the operation has the same reply, is a write at both or at neither, and has the same rows
 pub record IsSameAt (w now : World) (operation : op.Op) : Type 0 where

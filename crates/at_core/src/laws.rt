@@ -1,6 +1,7 @@
 //! What is true of every run of the core. Each function does nothing: its contract is the law.
 ghost use Rattle.at_core.specs.Runs.{EveryRunHolds, OpeningHolds};
 ghost use Rattle.at_core.specs.SomeRun.{HaveEachKind, SomeRunGoes};
+ghost use Rattle.at_core.specs.Writes.{HeldOperationsStay, LeavesRows, LeavesTypes};
 
 /// However passes interleave, the rule of the table holds after each step of each run: locks have one holder, a value at
 /// home agrees with the history, a held lock keeps what it protects, births and numbers are distinct, and a slot is out
@@ -16,4 +17,15 @@ pub fn every_run()
 pub fn some_run()
     ensures kinds { HaveEachKind }
     ensures goes { SomeRunGoes }
+{}
+
+/// What a pass that holds locks may count on while others write. An operation that needs no lock of the types leaves the
+/// classes, and the class and dictionary name of each object; and one leaves what the lock of a row protects, where the row
+/// is none of its rows and its object isn't moved. So where the lock of the types and the rows of an operation are held, for
+/// `o.x` the row of the dictionary that the object names, the operation has the same reply and the same rows at every later
+/// point, and is a write there or at none.
+pub fn held_operations()
+    ensures types { LeavesTypes }
+    ensures rows { LeavesRows }
+    ensures stays { HeldOperationsStay }
 {}

@@ -12,6 +12,7 @@ use at_value::{Limits, Obj};
 fn laws_hold() {
     laws::every_run();
     laws::some_run();
+    laws::held_operations();
 }
 
 /// A thread may be handed a value of this type, and share it.
