@@ -232,6 +232,7 @@ append_moves opened limits s g h id v at live hand c i n may =
       words_are = length-set s.words (number_of (key c i)) (suc n) ∙ h.words_are;
       slots_are = h.slots_are;
       small = h.small;
+      formed = h.formed;
       parts = subst (λ (ws : Words). Parts opened limits ws s.homes (set s.views id (key_appended v c i n)) g) (sym (stored s.words h.words_are (key c i) (suc n) there))
           (append_keeps opened limits (words_of s.words) s.homes s.views g h.parts id v at live c i n may);
     }

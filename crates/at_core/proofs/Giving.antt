@@ -1,6 +1,6 @@
 -- A lock is given back.
 use Rattle.std.proofs.Common.{◌≡◌, ◌≢◌, ℕ, zero, suc, ◌<◌, true, false, true≢false, List, [], ◌∷◌, length, map, set, get_or, refl, sym, ap, ◌∙◌, subst, ⊎_elim, arith}
-use Rattle.std.specs.Prelude.{Some, None, Option, slice_get}
+use Rattle.std.specs.Prelude.{Some}
 use mathlib.Core.Option.{some}
 use lib.ListN.{get_elem?}
 use Rattle.atomic_table.proofs.Lists.{at_map, set_here, set_else}
@@ -21,22 +21,10 @@ use Rattle.at_core.specs.Steps.{IsShut, MayGive, given, lists_given, copied_head
 use Rattle.at_core.proofs.Lists.{each_set, each_one}
 use Rattle.at_core.proofs.Prefixes.{prefix_self, prefix_trans}
 use Rattle.at_core.proofs.WordLemmas.{updated_here}
+use Rattle.at_core.proofs.Written.{get_or-same}
 use Rattle.at_core.proofs.LockLemmas.{lock_cases, slot_apart, other_word, same_place, same_heads, same_keys, same_values, same_global, same_sequences, same_types, same_row, hold_given, hold_kept}
 use Rattle.at_core.proofs.HeadFrames.{odd_even, heads_locked, open_changed}
 use Rattle.at_core.proofs.Parts.{left_alone, changed, lock_freed, seen_begins, spent_set, known_left, looks_left, sequence_left}
-
--- what a list has at an index, by the two ways to read it
-read_both : {A : Type 0} (xs ys : List A) (i : ℕ) (d : A) → slice_get xs i ≡ slice_get ys i → get_or xs i d ≡ get_or ys i d
-read_both xs ys i d e = sym (or_default xs i d) ∙ ap (λ (x : Option _). given_or x d) e ∙ or_default ys i d
-  where
-    given_or : {A : Type 0} → Option A → A → A
-    given_or None d = d
-    given_or (Some x) d = x
-
-    or_default : {A : Type 0} (xs : List A) (i : ℕ) (d : A) → given_or (slice_get xs i) d ≡ get_or xs i d
-    or_default [] i d = refl
-    or_default (x ∷ xs) zero d = refl
-    or_default (x ∷ xs) (suc i) d = or_default xs i d
 
 -- a value that agrees with a world agrees with each world in which the lock protected what it protects
 pub agrees_later : (limits : Limits) (before now : World) (lists : TypeLists) (shape : Shape) (l : lock.Lock) (x : Stored) → IsUnchanged l before now → Agrees limits before lists shape l x → Agrees limits now lists shape l x
@@ -55,7 +43,7 @@ agrees_later limits before now lists shape (locks.Row o) x same a = (
   a.0,
   a.1,
   record {
-    full = λ h. a.2.full h ∙ sym (read_both now.dicts before.dicts o [] same.1);
+    full = λ h. a.2.full h ∙ sym (get_or-same now.dicts before.dicts o [] same.1);
     empty = a.2.empty;
   },
 )

@@ -187,6 +187,7 @@ head_moves opened limits s g h id v at live hand kind o n small held may =
       words_are = length-set s.words (number_of (head o)) n ∙ h.words_are;
       slots_are = h.slots_are;
       small = h.small;
+      formed = h.formed;
       parts = subst (λ (ws : Words). Parts opened limits ws s.homes (set s.views id (head_stored kind v o n)) g) (sym (stored s.words h.words_are (head o) n there))
           (head_keeps opened limits (words_of s.words) s.homes s.views g h.parts id v at live kind o n held may);
     }

@@ -115,6 +115,7 @@ inline_moves opened limits s g h id v at live hand o i n small may =
       words_are = length-set s.words (number_of (inline_value o i)) n ∙ h.words_are;
       slots_are = h.slots_are;
       small = h.small;
+      formed = h.formed;
       parts = subst (λ (ws : Words). Parts opened limits ws s.homes (set s.views id (inline_stored v o i n)) g) (sym (stored s.words h.words_are (inline_value o i) n there))
           (inline_keeps opened limits (words_of s.words) s.homes s.views g h.parts id v at live o i n may);
     }

@@ -18,6 +18,8 @@ pub mod RowSteps
 pub mod HeadStoring
 pub mod InlineStoring
 pub mod Appending
+pub mod Committing
+pub mod Writing
 pub mod Opening
 pub mod Hands
 pub mod Moves

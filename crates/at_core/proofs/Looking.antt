@@ -30,7 +30,7 @@ use Rattle.at_core.proofs.Lists.{each_set}
 use Rattle.at_core.proofs.Prefixes.{prefix_self, prefix_whole, prefix_length}
 use Rattle.at_core.proofs.HeadFrames.{listed_grown, known_more}
 use Rattle.at_core.proofs.Parts.{changed}
-use Rattle.at_core.proofs.QuietSteps.{IsQuiet, load_moves, known_same, looks_same, sequence_same}
+use Rattle.at_core.proofs.QuietSteps.{head_quiet, inline_quiet, key_quiet, load_moves, known_same, looks_same, sequence_same}
 
 -- The parts say of one look what it has
 
@@ -118,7 +118,7 @@ module _ (opened : World) (limits : Limits) (s : Board) (g : Ghost) (h : Holds o
   head_load_moves o small =
       let there : IsTrue (is_there (head o)) = grind (arith, nat_tests, small) in
       let w = head_loaded v o g.history (words_of s.words (head o)) in
-      load_moves opened limits s g h id v at live hand (head o) there w (record { who = refl; history = refl; joined = refl; fresh = refl; types = refl; holds = refl; rows = refl; kept = refl })
+      load_moves opened limits s g h id v at live hand (head o) there w (head_quiet v o g.history (words_of s.words (head o)))
       (known_same opened limits s g h id v at live hand w refl)
       (looks_with w (All-cons Backs (record { object = o; word = words_of s.words (head o); at = g.history; cells = []; keys = [] }) v.looks (backed_new h.parts.headed o) backed))
       (sequence_same opened limits s g h id v at live hand w refl)
@@ -129,7 +129,7 @@ module _ (opened : World) (limits : Limits) (s : Board) (g : Ghost) (h : Holds o
       let there : IsTrue (is_there (inline_value o i)) = grind (arith, nat_tests, small, less) in
       let n : ℕ = words_of s.words (inline_value o i) in
       let w = inline_loaded v o i (keys_of (words_of s.words)) n in
-      load_moves opened limits s g h id v at live hand (inline_value o i) there w (record { who = refl; history = refl; joined = refl; fresh = refl; types = refl; holds = refl; rows = refl; kept = refl })
+      load_moves opened limits s g h id v at live hand (inline_value o i) there w (inline_quiet v o i (keys_of (words_of s.words)) n)
       (known_same opened limits s g h id v at live hand w refl)
       (looks_with w (All-map Backs (with_cell o i (keys_of (words_of s.words)) n) v.looks
       (All-weaker Backs (λ look. Backs (with_cell o i (keys_of (words_of s.words)) n look)) (λ look b. backed_cell h.parts.headed o i n refl look b) v.looks backed)))
@@ -141,7 +141,7 @@ module _ (opened : World) (limits : Limits) (s : Board) (g : Ghost) (h : Holds o
       let there : IsTrue (is_there (key c i)) = grind (arith, nat_tests, small, less) in
       let n : ℕ = words_of s.words (key c i) in
       let w = key_loaded v c i (copied_keys (keys_of (words_of s.words)) c) n in
-      load_moves opened limits s g h id v at live hand (key c i) there w (record { who = refl; history = refl; joined = refl; fresh = refl; types = refl; holds = refl; rows = refl; kept = refl })
+      load_moves opened limits s g h id v at live hand (key c i) there w (key_quiet v c i (copied_keys (keys_of (words_of s.words)) c) n)
       (changed known_read (KnownRule (keys_of (words_of s.words))) s.views id w
       (each_set (λ j known. (d : ℕ) → HaveGrown (slice_index (keys_at d known)) (keys_of (words_of s.words) d)) (map known_read s.views) id w.known h.parts.headed.known
       (known_more (keys_of (words_of s.words)) (record { class = c; keys = copied_keys (keys_of (words_of s.words)) c }) v.known (listed_grown keys (keys_of (words_of s.words) c))

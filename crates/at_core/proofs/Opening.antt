@@ -245,7 +245,7 @@ module _ (opened : World) (limits : Limits) (a : Core) (allowed : IsAllowed limi
 
   pub opens : CoreHolds opened limits a
   opens = subst (CoreHolds opened limits) (sym (first_core opened limits a o)) (record {
-    table_holds = record { words_are = long_enough; slots_are = ap suc (length-map o.slots_are.bodies some ∙ o.slots_are.long); small = allowed; parts = parts };
+    table_holds = record { words_are = long_enough; slots_are = ap suc (length-map o.slots_are.bodies some ∙ o.slots_are.long); small = allowed; formed = o.whole; parts = parts };
     hands_are = λ id u l e is. each_one (λ i x. false ≡ holds l x) (first_view limits) (sym (nothing_held l)) id u e;
   })
 

@@ -120,6 +120,7 @@ place_moves opened limits s g h id v at live hand = record {
   words_are = length-set s.words (number_of place) (words_of s.words place) ∙ h.words_are;
   slots_are = h.slots_are;
   small = h.small;
+  formed = h.formed;
   parts = subst (λ (ws : Words). Parts opened limits ws s.homes (set s.views id (place_loaded v g.history)) g)
       (sym (ap (λ (k : ℕ). words_of (set s.words (number_of place) k)) (said s.words place refl) ∙ reloaded s.words (number_of place)))
       (place_keeps opened limits (words_of s.words) s.homes s.views g h.parts id v at live);

@@ -21,6 +21,7 @@ use Rattle.at_core.specs.Reads.{holder_read, kept_read, births_of, known_read, l
 use Rattle.at_core.specs.Rule.{Slot, Board, Ghost, Parts, Holds, KnownRule, LookRule, SequenceRule, heads_of, keys_of, own_sequences_of, words_of}
 use Rattle.at_core.specs.Steps.{global_loaded, gone_online, gone_offline}
 use Rattle.at_core.specs.PlaceSteps.{intent_stored, unwritten}
+use Rattle.at_core.specs.HeadSteps.{head_loaded, inline_loaded, key_loaded}
 use Rattle.at_core.proofs.Lists.{each_set, map_back}
 use Rattle.at_core.proofs.LivePasses.{one_number, number_small}
 use Rattle.at_core.proofs.SequenceSteps.{sequence_loaded, sequence_stored}
@@ -78,6 +79,15 @@ unwritten_quiet v n = record { who = refl; history = refl; joined = refl; fresh 
 pub intent_quiet : (v : View) (j n : ℕ) → IsQuiet v (intent_stored v j n)
 intent_quiet v j n = record { who = refl; history = refl; joined = refl; fresh = refl; types = refl; holds = refl; rows = refl; kept = refl }
 
+pub head_quiet : (v : View) (o : ℕ) (at : List op.Op) (n : ℕ) → IsQuiet v (head_loaded v o at n)
+head_quiet v o at n = record { who = refl; history = refl; joined = refl; fresh = refl; types = refl; holds = refl; rows = refl; kept = refl }
+
+pub inline_quiet : (v : View) (o i : ℕ) (keys_are : ℕ → ℕ → ℕ) (n : ℕ) → IsQuiet v (inline_loaded v o i keys_are n)
+inline_quiet v o i keys_are n = record { who = refl; history = refl; joined = refl; fresh = refl; types = refl; holds = refl; rows = refl; kept = refl }
+
+pub key_quiet : (v : View) (c i : ℕ) (known : List ℕ) (n : ℕ) → IsQuiet v (key_loaded v c i known n)
+key_quiet v c i known n = record { who = refl; history = refl; joined = refl; fresh = refl; types = refl; holds = refl; rows = refl; kept = refl }
+
 -- a word of an intended operation is stored
 intent_leaves : (words : Words) (q j n : ℕ) → Leaves words (updated words (intent q j) n)
 intent_leaves words q j n = record { count = refl; locks = λ l. locks_same l; heads = refl; row_locks = refl; keys = refl; values = refl; types = refl; rows = λ o. refl }
@@ -121,6 +131,7 @@ module _ (opened : World) (limits : Limits) (s : Board) (g : Ghost) (h : Holds o
         words_are = length-set s.words (number_of a) n ∙ h.words_are;
         slots_are = h.slots_are;
         small = h.small;
+        formed = h.formed;
         parts = subst (λ (ws : Words). Parts opened limits ws s.homes (set s.views id w) g)
             (sym (ap (λ (k : ℕ). words_of (set s.words (number_of a) k)) (said s.words a there) ∙ reloaded s.words (number_of a)))
             (alike_keeps opened limits (words_of s.words) (words_of s.words) s.homes s.views g id v w h.parts at (quiet_alike v w q) (ap (λ y. y.live) q.who ∙ live) (leaves_all (words_of s.words)) known looks sequence);
@@ -159,6 +170,7 @@ module _ (opened : World) (limits : Limits) (s : Board) (g : Ghost) (h : Holds o
         words_are = length-set s.words (number_of (intent v.who.number j)) n ∙ h.words_are;
         slots_are = h.slots_are;
         small = h.small;
+        formed = h.formed;
         parts = subst (λ (ws : Words). Parts opened limits ws s.homes (set s.views id w) g) (sym (stored s.words h.words_are (intent v.who.number j) n there))
             (alike_keeps opened limits (words_of s.words) (updated (words_of s.words) (intent v.who.number j) n) s.homes s.views g id v w h.parts at (quiet_alike v w (intent_quiet v j n)) live
             (intent_leaves (words_of s.words) v.who.number j n) (known_same w refl) (looks_same w refl) (sequence_same w refl));
@@ -177,6 +189,7 @@ module _ (opened : World) (limits : Limits) (s : Board) (g : Ghost) (h : Holds o
         words_are = length-set s.words (number_of (own_sequence v.who.number)) n ∙ h.words_are;
         slots_are = h.slots_are;
         small = h.small;
+        formed = h.formed;
         parts = subst (λ (ws : Words). Parts opened limits ws s.homes (set s.views id w) g) (sym (stored s.words h.words_are (own_sequence v.who.number) n there))
             (alike_keeps opened limits words after s.homes s.views g id v w h.parts at (quiet_alike v w q) (ap (λ y. y.live) q.who ∙ live) (own_leaves words v.who.number n)
             (known_left s.views id v w at (keys_of words) known h.parts.headed.known)

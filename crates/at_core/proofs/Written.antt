@@ -23,7 +23,7 @@ use Rattle.at_model.specs.History.{replay, IsProper}
 use Rattle.at_line.specs.Kept.{with_dict_name, rows_of}
 use Rattle.at_core.specs.declared.lock.Lock.TheVariants as locks
 use Rattle.at_core.specs.Locks.{IsUnchanged}
-use Rattle.at_core.specs.Writes.{moved_by, needs_types, dict_named, read_by, LeavesTypes, LeavesRows, IsHeld, IsSameAt, HeldOperationsStay}
+use Rattle.at_core.specs.Writes.{moved_by, needs_types, dict_named, read_by, LeavesTypes, LeavesObjects, LeavesRows, IsHeld, IsSameAt, HeldOperationsStay}
 
 -- What an operation makes of a world
 
@@ -164,6 +164,30 @@ second_in o p q rest same = (1, omega arith, sym same)
 
 pub dict_in : (o p : ℕ) (at : Option Object) (found : Object) → at ≡ Some found → o ≡ found.dict → Contains (with_dict_name p at) o
 dict_in o p at found is same = subst (λ r. Contains (with_dict_name p r) o) (sym is) (second_in o p found.dict [] same)
+
+-- an object that isn't moved
+abbrev IsLeft : World → ℕ → World → Type 0
+IsLeft w o now = slice_get now.objects o ≡ slice_get w.objects o
+
+object_left : (w : World) (operation : op.Op) (o : ℕ) → ¬ Contains (moved_by w operation) o → Makes (IsLeft w o) w operation
+object_left w (ops.NewClass c bases) o moved = refl
+object_left w (ops.TypeSet c n v) o moved = λ names. refl
+object_left w (ops.TypeDel c n) o moved = λ names. refl
+object_left w (ops.SetBases c bases) o moved = refl
+object_left w (ops.New c) o moved = slice_get-push_other w.objects o _ (λ same. moved (first_in o (length w.objects) [] same))
+object_left w (ops.Set p n v) o moved = λ found at names. refl
+object_left w (ops.Del p n) o moved = λ found at names. refl
+object_left w (ops.SetClass p c) o moved = λ now. slice_get-set_other w.objects p o now (λ same. moved (first_in o p [] same))
+object_left w (ops.Share p q) o moved = λ now. slice_get-set_other w.objects p o now (λ same. moved (first_in o p [] same))
+object_left w (ops.Get p n) o moved = tt
+object_left w (ops.TypeGet c n) o moved = tt
+object_left w (ops.Super k p n) o moved = tt
+object_left w (ops.Special p n) o moved = tt
+object_left w (ops.ClassOf p) o moved = tt
+object_left w (ops.Mro c) o moved = tt
+
+pub leaves_objects : LeavesObjects
+leaves_objects w operation o moved = by_step (IsLeft w o) w refl operation (object_left w operation o moved)
 
 rows_left : (w : World) (operation : op.Op) (o : ℕ) → length w.dicts ≡ length w.objects → ¬ Contains (rows_of w operation) o
     → ¬ Contains (moved_by w operation) o → Makes (IsUnchanged (locks.Row o) w) w operation

@@ -11,7 +11,7 @@ use Rattle.at_value.specs.Widths.{classes, objects}
 use Rattle.at_value.specs.declared.limits.Limits.{Limits}
 use Rattle.at_value.specs.declared.operation.Op as op
 use Rattle.at_model.specs.declared.rows.Object.{Object}
-use Rattle.at_model.specs.World.{World}
+use Rattle.at_model.specs.World.{World, IsWellFormed}
 use Rattle.at_model.specs.History.{replay, IsProper}
 use Rattle.at_dict.specs.Dictionary.{Dictionary}
 use Rattle.at_types.specs.declared.tags.LimboRow.{LimboRow}
@@ -295,6 +295,7 @@ pub record Holds (opened : World) (limits : Limits) (s : Board) (g : Ghost) : Ty
   pub words_are : length s.words ≡ table_words
   pub slots_are : length s.homes ≡ suc objects
   pub small : limits.place_max + passes < 2 ^ 64
+  pub formed : IsWellFormed opened
   pub parts : Parts opened limits (words_of s.words) s.homes s.views g
 
 -- the rule of the table

@@ -4,7 +4,7 @@ use Rattle.at_value.specs.declared.limits.Limits.{Limits}
 use Rattle.at_model.specs.World.{World}
 use Rattle.at_core.specs.declared.lock.Lock.TheVariants as locks
 use Rattle.at_core.specs.declared.stored.Stored.{Stored}
-use Rattle.at_core.specs.Runs.{Core, Event, lock_take, lock_miss, lock_give, slot_out, slot_in, split, join, global_load, go_online, go_offline, IsOpening, Leads}
+use Rattle.at_core.specs.Runs.{Core, Event, lock_take, lock_miss, lock_give, slot_out, slot_in, split, join, global_load, go_online, go_offline, place_load, intent_store, commit, commit_if, commit_miss, head_load, inline_load, key_load, head_open, head_close, inline_store, key_append, IsOpening, Leads}
 
 -- The first pass takes the lock of the types and the types out of their slot, splits a second off, and puts the types
 -- in, with the number of the second taken. The second finds the lock held, and the first gives it back. The second
@@ -29,6 +29,18 @@ kind_of (join id other) = 6
 kind_of (global_load id) = 7
 kind_of (go_online id) = 8
 kind_of (go_offline id) = 9
+kind_of (place_load id) = 10
+kind_of (intent_store id j n) = 11
+kind_of (commit id operation) = 12
+kind_of (commit_if id operation) = 13
+kind_of (commit_miss id operation) = 14
+kind_of (head_load id o) = 15
+kind_of (inline_load id o i) = 16
+kind_of (key_load id c i) = 17
+kind_of (head_open id o) = 18
+kind_of (head_close id o word) = 19
+kind_of (inline_store id o i word) = 20
+kind_of (key_append id c i n) = 21
 
 -- whatever the event, one of its kind is among them
 abbrev pub HaveEachKind : Type 0

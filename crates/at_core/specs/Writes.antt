@@ -75,6 +75,10 @@ read_by w (ops.Mro c) = []
 abbrev pub LeavesTypes : Type 0
 LeavesTypes = (w : World) (operation : op.Op) → needs_types operation ≡ false → IsUnchanged locks.Types w (step w operation).world
 
+-- one leaves the class and the dictionary name of each object that it doesn't move
+abbrev pub LeavesObjects : Type 0
+LeavesObjects = (w : World) (operation : op.Op) (o : ℕ) → ¬ Contains (moved_by w operation) o → slice_get (step w operation).world.objects o ≡ slice_get w.objects o
+
 -- one leaves what the lock of a row protects, where the row is none of its rows and its object isn't moved
 abbrev pub LeavesRows : Type 0
 LeavesRows =
