@@ -1,5 +1,5 @@
 -- Where what an operation needs is held, it has the same reply.
-use Rattle.std.proofs.Common.{◌≡◌, ◌∙◌, ap, refl, sym, subst, ℕ, suc, ◌==◌, ◌&&◌, cond, not, length, List, [], ◌∷◌, Option, Some, None, Bool, true, false, IsTrue, is_some, is_none, leb, slice_get, Contains, arith}
+use Rattle.std.proofs.Common.{◌≡◌, ◌∙◌, ap, refl, sym, subst, ℕ, suc, ◌==◌, ◌&&◌, cond, not, length, List, [], ◌∷◌, Option, Some, None, Bool, true, false, IsTrue, is_some, is_none, leb, slice_get, Contains}
 use Rattle.std.proofs.lemmas.Bool.{true≢false}
 use Rattle.at_value.specs.Numbers.{object, getattr}
 use Rattle.at_value.specs.Pairs.{value_at}
@@ -19,10 +19,10 @@ use Rattle.at_model.specs.Attributes.{Outcome, three_of_object, three_of, dict_o
 use Rattle.at_model.specs.Step as stepping
 use Rattle.at_model.proofs.OrderLaws.{no_base}
 use Rattle.at_model.proofs.OnlyWrites.{reads_write_nothing}
-use Rattle.at_line.specs.Kept.{rows_of}
+use Rattle.at_line.specs.Kept.{with_dict_name, rows_of}
 use Rattle.at_core.specs.declared.lock.Lock.TheVariants as locks
 use Rattle.at_core.specs.Locks.{IsUnchanged}
-use Rattle.at_core.specs.Writes.{moved_by, dict_named, read_by, IsHeld, IsSameAt, HeldOperationsStay}
+use Rattle.at_core.specs.Writes.{moved_by, dict_named, read_by, IsSameAt, HeldOperationsStay}
 use Rattle.at_core.proofs.Written.{get_or-same, first_in, dict_in}
 
 -- the world with other dictionaries
@@ -43,27 +43,35 @@ said_by_test false x x' y y' one other = other
 unordered-same : (w : World) (dicts : List Map) (c : ℕ) (rows : List (Option ClassRow))
     → stepping.first_unordered_from (with_dicts w dicts) c rows ≡ stepping.first_unordered_from w c rows
 unordered-same w dicts c [] = refl
-unordered-same w dicts c (row ∷ rows) = ap (λ later. cond (is_some row && is_none (order_of w c)) (Some c) later) (unordered-same w dicts (suc c) rows)
+unordered-same w dicts c (row ∷ rows) =
+    ap (λ later. cond (is_some row && is_none (order_of w c)) (Some c) later) (unordered-same w dicts (suc c) rows)
 
-order_said : (w v changed after : World) (first : Option ℕ) → IsSaid (stepping.unless_unordered w changed first) (stepping.unless_unordered v after first)
+order_said : (w v changed after : World) (first : Option ℕ)
+    → IsSaid (stepping.unless_unordered w changed first) (stepping.unless_unordered v after first)
 order_said w v changed after None = refl
 order_said w v changed after (Some c) = refl
 
 if_ordered-said : (w changed : World) (dicts : List Map)
     → IsSaid (stepping.if_ordered (with_dicts w dicts) (with_dicts changed dicts)) (stepping.if_ordered w changed)
 if_ordered-said w changed dicts =
-    ap (λ first. (stepping.unless_unordered (with_dicts w dicts) (with_dicts changed dicts) first).reply) (unordered-same changed dicts 0 changed.classes)
-    ∙ order_said (with_dicts w dicts) w (with_dicts changed dicts) changed (stepping.first_unordered changed)
+    let v = with_dicts w dicts in
+    let after = with_dicts changed dicts in
+    ap (λ first. (stepping.unless_unordered v after first).reply) (unordered-same changed dicts 0 changed.classes)
+    ∙ order_said v w after changed (stepping.first_unordered changed)
 
 module _ (w : World) (dicts : List Map) where
   abbrev now : World
   now = with_dicts w dicts
 
-  -- an object's dictionary, where it is as it was
-  abbrev IsDictSame : Object → Type 0
-  IsDictSame found = slice_get dicts found.dict ≡ slice_get w.dicts found.dict
+  -- a dictionary is as it was
+  abbrev IsSameDict : ℕ → Type 0
+  IsSameDict d = slice_get dicts d ≡ slice_get w.dicts d
 
-  dict-same : (found : Object) → IsDictSame found → dict_of now found ≡ dict_of w found
+  -- so is that which the object names
+  abbrev IsNamedSame : Option Object → Type 0
+  IsNamedSame at = (found : Object) → at ≡ Some found → IsSameDict found.dict
+
+  dict-same : (found : Object) → IsSameDict found.dict → dict_of now found ≡ dict_of w found
   dict-same found same = get_or-same dicts w.dicts found.dict [] same
 
   -- What a class has
@@ -78,20 +86,24 @@ module _ (w : World) (dicts : List Map) where
 
   -- Reading
 
-  get_said : (o n : ℕ) (at : Option Object) → ((found : Object) → at ≡ Some found → IsDictSame found) → get_on now o n at ≡ get_on w o n at
+  get_said : (o n : ℕ) (at : Option Object) → IsNamedSame at → get_on now o n at ≡ get_on w o n at
   get_said o n None same = refl
   get_said o n (Some found) same =
       let t = find_in w found.class n in
-      ap (λ (three : Three). bound_get t three (value_at n (dict_of now found)) o found.class n (find_in w found.class getattr)) (three-same t)
-      ∙ ap (λ (names : Map). bound_get t (three_of w t) (value_at n names) o found.class n (find_in w found.class getattr)) (dict-same found (same found refl))
+      let a = find_in w found.class getattr in
+      ap (λ (three : Three). bound_get t three (value_at n (dict_of now found)) o found.class n a) (three-same t)
+      ∙ ap (λ (names : Map). bound_get t (three_of w t) (value_at n names) o found.class n a)
+      (dict-same found (same found refl))
 
   special_said : (o n : ℕ) (at : Option Object) → special_on now o n at ≡ special_on w o n at
   special_said o n None = refl
-  special_said o n (Some found) = let t = find_in w found.class n in ap (λ (three : Three). bound_special t three o found.class) (three-same t)
+  special_said o n (Some found) =
+      let t = find_in w found.class n in ap (λ (three : Three). bound_special t three o found.class) (three-same t)
 
   super_along-said : (o n c : ℕ) (rest : Option (List ℕ)) → super_along now o n c rest ≡ super_along w o n c rest
   super_along-said o n c None = refl
-  super_along-said o n c (Some rest) = let t = find_along w.classes rest n in ap (λ (three : Three). bound_special t three o c) (three-same t)
+  super_along-said o n c (Some rest) =
+      let t = find_along w.classes rest n in ap (λ (three : Three). bound_special t three o c) (three-same t)
 
   super_said : (k o n : ℕ) (at : Option Object) → super_on now k o n at ≡ super_on w k o n at
   super_said k o n None = refl
@@ -99,7 +111,8 @@ module _ (w : World) (dicts : List Map) where
 
   -- Writing
 
-  set_by-said : (o : Object) (n : ℕ) (v : value.Value) (b : binding.Step) → IsSaid (set_by now o n v b) (set_by w o n v b)
+  set_by-said : (o : Object) (n : ℕ) (v : value.Value) (b : binding.Step)
+      → IsSaid (set_by now o n v b) (set_by w o n v b)
   set_by-said o n v (bindings.Says r) = refl
   set_by-said o n v bindings.Own = refl
 
@@ -107,29 +120,33 @@ module _ (w : World) (dicts : List Map) where
   set_said o n v None = refl
   set_said o n v (Some found) =
       let t = find_in w found.class n in
-      ap (λ (three : Three). (set_by now found n v (bound_set t three o v)).reply) (three-same t) ∙ set_by-said found n v (bound_set t (three_of w t) o v)
+      ap (λ (three : Three). (set_by now found n v (bound_set t three o v)).reply) (three-same t)
+      ∙ set_by-said found n v (bound_set t (three_of w t) o v)
 
   del_own-said : (o : Object) (n : ℕ) (was : Option value.Value) → IsSaid (del_own now o n was) (del_own w o n was)
   del_own-said o n None = refl
   del_own-said o n (Some v) = refl
 
-  del_by-said : (o : Object) (n : ℕ) (b : binding.Step) → IsDictSame o → IsSaid (del_by now o n b) (del_by w o n b)
+  del_by-said : (o : Object) (n : ℕ) (b : binding.Step) → IsSameDict o.dict → IsSaid (del_by now o n b) (del_by w o n b)
   del_by-said o n (bindings.Says r) same = refl
   del_by-said o n bindings.Own same =
-      ap (λ (names : Map). (del_own now o n (value_at n names)).reply) (dict-same o same) ∙ del_own-said o n (value_at n (dict_of w o))
+      ap (λ (names : Map). (del_own now o n (value_at n names)).reply) (dict-same o same)
+      ∙ del_own-said o n (value_at n (dict_of w o))
 
-  del_said : (o n : ℕ) (at : Option Object) → ((found : Object) → at ≡ Some found → IsDictSame found) → IsSaid (del_on now o n at) (del_on w o n at)
+  del_said : (o n : ℕ) (at : Option Object) → IsNamedSame at → IsSaid (del_on now o n at) (del_on w o n at)
   del_said o n None same = refl
   del_said o n (Some found) same =
       let t = find_in w found.class n in
       ap (λ (three : Three). (del_by now found n (bound_del t three o)).reply) (three-same t)
       ∙ del_by-said found n (bound_del t (three_of w t) o) (same found refl)
 
-  class_said : (o c : ℕ) (at : Option Object) → IsSaid (stepping.set_class_on now o c at) (stepping.set_class_on w o c at)
+  class_said : (o c : ℕ) (at : Option Object)
+      → IsSaid (stepping.set_class_on now o c at) (stepping.set_class_on w o c at)
   class_said o c None = refl
   class_said o c (Some was) = said_by_test (c == object) _ _ _ _ refl refl
 
-  share_said : (o : ℕ) (at other : Option Object) → IsSaid (stepping.share_on now o at other) (stepping.share_on w o at other)
+  share_said : (o : ℕ) (at other : Option Object)
+      → IsSaid (stepping.share_on now o at other) (stepping.share_on w o at other)
   share_said o None other = refl
   share_said o (Some was) None = refl
   share_said o (Some was) (Some other) = refl
@@ -138,45 +155,62 @@ module _ (w : World) (dicts : List Map) where
 
   -- each dictionary that the operation writes or reads is as it was
   abbrev AreDictsSame : op.Op → Type 0
-  AreDictsSame operation = ((o : ℕ) → Contains (rows_of w operation) o → slice_get dicts o ≡ slice_get w.dicts o)
-      × ((o : ℕ) → Contains (read_by w operation) o → slice_get dicts o ≡ slice_get w.dicts o)
+  AreDictsSame operation =
+      ((d : ℕ) → Contains (rows_of w operation) d → IsSameDict d)
+      × ((d : ℕ) → Contains (read_by w operation) d → IsSameDict d)
 
   named_in : (at : Option Object) (found : Object) → at ≡ Some found → Contains (dict_named at) found.dict
-  named_in at found is = subst (λ r. Contains (dict_named r) found.dict) (sym is) (first_in found.dict found.dict [] refl)
+  named_in at found is =
+      subst (λ r. Contains (dict_named r) found.dict) (sym is) (first_in found.dict found.dict [] refl)
 
-  effect_said : (operation : op.Op) → AreDictsSame operation → IsSaid (stepping.effect now operation) (stepping.effect w operation)
+  written_same : (o : ℕ) (at : Option Object) → ((d : ℕ) → Contains (with_dict_name o at) d → IsSameDict d)
+      → IsNamedSame at
+  written_same o at same found is = same found.dict (dict_in found.dict o at found is refl)
+
+  read_same : (at : Option Object) → ((d : ℕ) → Contains (dict_named at) d → IsSameDict d) → IsNamedSame at
+  read_same at same found is = same found.dict (named_in at found is)
+
+  effect_said : (operation : op.Op) → AreDictsSame operation
+      → IsSaid (stepping.effect now operation) (stepping.effect w operation)
   effect_said (ops.NewClass c bases) same =
       said_by_test (stepping.is_made w c) _ _ _ _ refl
       (said_by_test (stepping.is_empty bases) _ _ _ _ refl
       (said_by_test (stepping.has_repeat bases) _ _ _ _ refl (if_ordered-said w (stepping.with_class w c bases) dicts)))
   effect_said (ops.TypeSet c n v) same = said_by_test (c == object) _ _ _ _ refl refl
   effect_said (ops.TypeDel c n) same =
-      said_by_test (c == object) _ _ _ _ refl (said_by_test (is_none (value_at n (own_of (row_of w.classes c)))) _ _ _ _ refl refl)
+      said_by_test (c == object) _ _ _ _ refl
+      (said_by_test (is_none (value_at n (own_of (row_of w.classes c)))) _ _ _ _ refl refl)
   effect_said (ops.SetBases c bases) same =
       said_by_test (c == object) _ _ _ _ refl
       (said_by_test (stepping.is_empty bases) _ _ _ _ refl
       (said_by_test (stepping.has_repeat bases) _ _ _ _ refl
-      (said_by_test (stepping.is_cycle w c bases) _ _ _ _ refl (if_ordered-said w (stepping.with_bases w c bases) dicts))))
-  effect_said (ops.New c) same = said_by_test (c == object) _ _ _ _ refl (said_by_test (leb widths.objects (length w.objects)) _ _ _ _ refl refl)
+      (said_by_test (stepping.is_cycle w c bases) _ _ _ _ refl
+      (if_ordered-said w (stepping.with_bases w c bases) dicts))))
+  effect_said (ops.New c) same =
+      said_by_test (c == object) _ _ _ _ refl (said_by_test (leb widths.objects (length w.objects)) _ _ _ _ refl refl)
   effect_said (ops.Set o n v) same = set_said o n v (slice_get w.objects o)
   effect_said (ops.Del o n) same =
-      del_said o n (slice_get w.objects o) (λ found at. same.0 found.dict (dict_in found.dict o (slice_get w.objects o) found at refl))
+      let at = slice_get w.objects o in del_said o n at (written_same o at same.0)
   effect_said (ops.SetClass o c) same = class_said o c (slice_get w.objects o)
   effect_said (ops.Share o p) same = share_said o (slice_get w.objects o) (slice_get w.objects p)
-  effect_said (ops.Get o n) same = get_said o n (slice_get w.objects o) (λ found at. same.1 found.dict (named_in (slice_get w.objects o) found at))
-  effect_said (ops.TypeGet c n) same = let t = find_in w c n in ap (λ (three : Three). bound_class t three c) (three-same t)
+  effect_said (ops.Get o n) same = let at = slice_get w.objects o in get_said o n at (read_same at same.1)
+  effect_said (ops.TypeGet c n) same =
+      let t = find_in w c n in ap (λ (three : Three). bound_class t three c) (three-same t)
   effect_said (ops.Super k o n) same = super_said k o n (slice_get w.objects o)
   effect_said (ops.Special o n) same = special_said o n (slice_get w.objects o)
   effect_said (ops.ClassOf o) same = refl
   effect_said (ops.Mro c) same = refl
 
-  step_said : (operation : op.Op) → AreDictsSame operation → IsSaid (stepping.step now operation) (stepping.step w operation)
+  step_said : (operation : op.Op) → AreDictsSame operation
+      → IsSaid (stepping.step now operation) (stepping.step w operation)
   step_said operation same =
       said_by_test (not (stepping.are_objects w (stepping.objects_in operation))) _ _ _ _ refl
-      (said_by_test (not (stepping.are_made w (stepping.classes_in operation))) _ _ _ _ refl (effect_said operation same))
+      (said_by_test (not (stepping.are_made w (stepping.classes_in operation))) _ _ _ _ refl
+      (effect_said operation same))
 
   -- what it touches and moves is told by the objects alone
-  touches-same : (operation : op.Op) → (rows_of now operation ≡ rows_of w operation) × (moved_by now operation ≡ moved_by w operation)
+  touches-same : (operation : op.Op)
+      → (rows_of now operation ≡ rows_of w operation) × (moved_by now operation ≡ moved_by w operation)
   touches-same (ops.NewClass c bases) = (refl, refl)
   touches-same (ops.TypeSet c n v) = (refl, refl)
   touches-same (ops.TypeDel c n) = (refl, refl)
@@ -201,12 +235,14 @@ module _ (w : World) (dicts : List Map) where
 
 pub held_operations_stay : HeldOperationsStay
 held_operations_stay w now operation held =
-    let is : now ≡ with_dicts w now.dicts = λ k. record { classes = held.types.0 k; objects = held.types.1 k; dicts = now.dicts } in
+    let is : now ≡ with_dicts w now.dicts =
+    λ k. record { classes = held.types.0 k; objects = held.types.1 k; dicts = now.dicts } in
     subst (λ v. IsSameAt w v operation) (sym is)
     (same_at w now.dicts operation ((λ o at. (held.rows o at).1), (λ o at. (held.reads o at).1)))
 
 -- a write reads no dictionary but those that it writes
-no_reads : (w : World) (operation : op.Op) (o : ℕ) → IsTrue (stepping.is_write w operation) → ¬ Contains (read_by w operation) o
+no_reads : (w : World) (operation : op.Op) (o : ℕ) → IsTrue (stepping.is_write w operation)
+    → ¬ Contains (read_by w operation) o
 no_reads w (ops.Get p n) o writes at = absurd (true≢false (sym writes ∙ reads_write_nothing w (ops.Get p n) refl))
 no_reads w (ops.NewClass c bases) o writes at = no_base o at
 no_reads w (ops.TypeSet c n v) o writes at = no_base o at
@@ -224,7 +260,9 @@ no_reads w (ops.ClassOf p) o writes at = no_base o at
 no_reads w (ops.Mro c) o writes at = no_base o at
 
 -- so a write stays where its rows and the types are held
-pub held_writes_stay : (w now : World) (operation : op.Op) → IsTrue (stepping.is_write w operation) → IsUnchanged locks.Types w now
-    → ((o : ℕ) → Contains (rows_of w operation) o → IsUnchanged (locks.Row o) w now) → IsSameAt w now operation
+pub held_writes_stay : (w now : World) (operation : op.Op) → IsTrue (stepping.is_write w operation)
+    → IsUnchanged locks.Types w now → ((o : ℕ) → Contains (rows_of w operation) o → IsUnchanged (locks.Row o) w now)
+    → IsSameAt w now operation
 held_writes_stay w now operation writes types rows =
-    held_operations_stay w now operation (record { types = types; rows = rows; reads = λ o at. absurd (no_reads w operation o writes at) })
+    held_operations_stay w now operation
+    (record { types = types; rows = rows; reads = λ o at. absurd (no_reads w operation o writes at) })

@@ -85,7 +85,8 @@ LeavesRows =
     (w : World) (operation : op.Op) (o : ℕ) → length w.dicts ≡ length w.objects → ¬ Contains (rows_of w operation) o → ¬ Contains (moved_by w operation) o
     → IsUnchanged (locks.Row o) w (step w operation).world
 
--- Between two worlds the classes and objects are the same, and what the rows protect that the operation touches or reads.
+-- Between two worlds the classes and objects are the same, and what the rows of the operation protect, and that of the
+-- dictionary that it reads.
 pub record IsHeld (w now : World) (operation : op.Op) : Type 0 where
   pub types : IsUnchanged locks.Types w now
   pub rows : (o : ℕ) → Contains (rows_of w operation) o → IsUnchanged (locks.Row o) w now

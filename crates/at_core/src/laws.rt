@@ -19,11 +19,11 @@ pub fn some_run()
     ensures goes { SomeRunGoes }
 {}
 
-/// What a pass that holds locks may count on while others write. An operation that needs no lock of the types leaves the
-/// classes, and the class and dictionary name of each object; and one leaves what the lock of a row protects, where the row
-/// is none of its rows and its object isn't moved. So where the lock of the types and the rows of an operation are held, for
-/// `o.x` the row of the dictionary that the object names, the operation has the same reply and the same rows at every later
-/// point, and is a write there or at none.
+/// What a pass that holds locks may count on while others write. An operation that needs no lock of the types leaves
+/// the classes, and of each object the class and the dictionary that it names. An operation leaves what the lock of a
+/// row protects, where the row is none of its rows and its object isn't moved. So where the lock of the types and the
+/// rows of an operation are held, and for `o.x` the row of the dictionary that the object names, its reply and its rows
+/// are the same at every later point, and it is a write at each or at none.
 pub fn held_operations()
     ensures types { LeavesTypes }
     ensures rows { LeavesRows }
