@@ -10,7 +10,7 @@ use native.Mathlib.Decide.{ℕ_discrete}
 use lib.ListN.{get_elem?}
 use Rattle.atomic_table.specs.Table.{keeps, stepped}
 use Rattle.atomic_table.proofs.Lists.{at_map}
-use Rattle.at_value.specs.Widths.{objects}
+use Rattle.at_value.specs.Widths.{classes, objects}
 use Rattle.at_value.specs.declared.limits.Limits.{Limits}
 use Rattle.at_value.specs.declared.operation.Op as op
 use Rattle.at_model.specs.declared.rows.Object.{Object}
@@ -59,7 +59,7 @@ next_sequence : (h : ℕ) → IsWhole h → sequence_of (suc h) ≡ suc (sequenc
 next_sequence h even = omega (arith, even)
 
 -- words that the table doesn't have say 0
-no_value : (ws : List ℕ) (o j : ℕ) → inline_values ≤ j → values_of (words_of ws) o j ≡ 0
+pub no_value : (ws : List ℕ) (o j : ℕ) → inline_values ≤ j → values_of (words_of ws) o j ≡ 0
 no_value ws o j le = by_test (is_there (inline_value o j)) refl
   where
     no_index : nat_lt j inline_values ≡ false
@@ -68,6 +68,16 @@ no_value ws o j le = by_test (is_there (inline_value o j)) refl
     by_test : (t : Bool) → is_there (inline_value o j) ≡ t → values_of (words_of ws) o j ≡ 0
     by_test true e = absurd (true≢false (sym e ∙ (ap (λ (b : Bool). nat_lt o objects && b) no_index ∙ and_false (nat_lt o objects))))
     by_test false e = ap (λ (t : Bool). if t then slice_index ws (number_of (inline_value o j)) else 0) e
+
+pub no_key : (ws : List ℕ) (c j : ℕ) → keys ≤ j → keys_of (words_of ws) c j ≡ 0
+no_key ws c j le = by_test (is_there (key c j)) refl
+  where
+    no_index : nat_lt j keys ≡ false
+    no_index = grind (arith, nat_tests, le)
+
+    by_test : (t : Bool) → is_there (key c j) ≡ t → keys_of (words_of ws) c j ≡ 0
+    by_test true e = absurd (true≢false (sym e ∙ (ap (λ (b : Bool). nat_lt c classes && b) no_index ∙ and_false (nat_lt c classes))))
+    by_test false e = ap (λ (t : Bool). if t then slice_index ws (number_of (key c j)) else 0) e
 
 module _ (opened : World) (limits : Limits) (s : Board) (g : Ghost) (h : Holds opened limits s g) (id : ℕ) (v : View) (at : get_elem? s.views id ≡ some v) (live : v.who.live ≡ true) (hand : List (ℕ × Slot)) where
   seen : IsPrefix v.history.seen g.history

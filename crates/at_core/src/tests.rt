@@ -1,6 +1,6 @@
 //! The steps of the core on a world of its own, and the laws. Each call of a law does nothing: its contract is proved.
-ghost use Rattle.std.specs.Prelude.{◌≡◌, ◌<◌, false, length};
-ghost use Rattle.at_core.specs.Locks.{holds};
+ghost use Rattle.std.specs.Prelude.{◌≡◌, ◌<◌, length};
+ghost use Rattle.at_core.specs.Locks.{HoldsNone};
 ghost use Rattle.at_core.specs.Passes.{view, hand, IsOf, IsSame};
 
 use crate::locking::{slot_in, slot_out, try_lock, unlock};
@@ -76,7 +76,7 @@ fn a_first_pass_takes_what_it_tries(rt: HostRuntime) -> Result<(), OpenFault> {
 /// Takes a lock and gives it back, and gives what its word was.
 fn take_and_give(world: &World, pass: &mut Pass, lock: &Lock) -> u64
     requires of { IsOf pass.old world.now }
-    requires out { holds lock.now (view pass.old) ≡ false }
+    requires out { HoldsNone (view pass.old) }
     requires room { length (hand pass.old) < MOST_HELD }
     ensures { IsSame pass.old pass.new × IsOf pass.new world.now }
 {

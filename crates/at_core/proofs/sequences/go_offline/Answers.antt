@@ -30,7 +30,7 @@ store-requires c =
     let word : number_of (own_sequence me.0.who.number) ≡ c.own_sequence.result = ap (λ (n : ℕ). number_of (own_sequence n)) p.numbered.0 ∙ sym c.own_sequence.ensures in (
       c.requires.of.table,
       subst (λ (n : ℕ). n < table.table_id.words) (sym c.own_sequence.ensures) room,
-      subst Q word (turns_offline opening table.key table.table_id.slots p.seat.id me p.live (subst (λ (n : ℕ). n < passes) (sym p.numbered.0) small)),
+      subst Q word (turns_offline opening table.key table.table_id.slots p.seat.id me p.live),
     )
 
 -- nothing has changed but what the pass knows of sequences and tags

@@ -30,7 +30,7 @@ store-requires c =
     let word : number_of (own_sequence me.0.who.number) ≡ c.own_sequence.result = ap (λ (n : ℕ). number_of (own_sequence n)) p.numbered.0 ∙ sym c.own_sequence.ensures in (
       c.requires.of.table,
       subst (λ (n : ℕ). n < table.table_id.words) (sym c.own_sequence.ensures) room,
-      subst Q (λ i. (word i, sym c.requires.may.1 i)) (turns_online opening table.key table.table_id.slots p.seat.id me p.live (subst (λ (n : ℕ). n < passes) (sym p.numbered.0) small)),
+      subst Q (λ i. (word i, sym c.requires.may.1 i)) (turns_online opening table.key table.table_id.slots p.seat.id me p.live c.requires.may.0.loaded),
     )
 
 -- nothing has changed but what the pass knows of sequences and tags
