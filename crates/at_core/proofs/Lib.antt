@@ -27,6 +27,7 @@ pub mod AllRuns
 pub mod LivePasses
 pub mod Allowed
 pub mod SomeRun
+pub mod AllowedPlaces
 pub mod HandOf
 pub mod Written
 pub mod HeldStays

@@ -9,6 +9,8 @@ pub mod Steps
 pub mod PlaceSteps
 pub mod HeadSteps
 pub mod Plays
+pub mod PlacePlays
+pub mod HeadPlays
 pub mod Runs
 pub mod Opened
 pub mod Passes
