@@ -1,0 +1,235 @@
+-- The first part of the run that is written out: locks, passes and sequences.
+use Rattle.std.proofs.Common.{◌≡◌, ◌≢◌, ℕ, zero, suc, ◌<◌, ◌%◌, Bool, true, false, true≢false, IsTrue, List, [], ◌∷◌, length, map, set, drop, refl, sym, ap, ◌∙◌, subst, arith, length-set}
+use Rattle.std.specs.Prelude.{Some, None}
+use mathlib.Core.Option.{some}
+use Rattle.at_value.specs.declared.limits.Limits.{Limits}
+use Rattle.at_model.specs.World.{World}
+use Rattle.at_dict.specs.Dictionary.{Dictionary}
+use Rattle.at_view.specs.declared.view.TypeLists.{TypeLists}
+use Rattle.at_view.specs.declared.view.View.{View}
+use Rattle.at_view.specs.Views.{first_view}
+use Rattle.at_view.specs.Words.{Word, number_of, is_there, is_same, table_words, type_lock, global_sequence, own_sequence, row_lock, head}
+use Rattle.at_core.specs.declared.lock.Lock as lock
+use Rattle.at_core.specs.declared.lock.Lock.TheVariants as locks
+use Rattle.at_core.specs.declared.stored.Stored.{Stored}
+use Rattle.at_core.specs.declared.stored.Stored.TheVariants as stored
+use Rattle.at_core.specs.Locks.{slot_of, holds}
+use Rattle.at_core.specs.Rule.{Homes, TypesAgree, words_of}
+use Rattle.at_core.specs.Steps.{Moment, taken, missed, given, lists_parted, child, lists_joined}
+use Rattle.at_core.specs.Runs.{Core, Event, lock_take, lock_miss, lock_give, slot_out, slot_in, split, join, global_load, go_online, go_offline, moment_of, opening_lists, opening_words, Goes, Leads}
+use Rattle.at_core.specs.SomeRun.{lock_events}
+use Rattle.at_core.proofs.SomeRunWords.{said_here, said_else, wide_still}
+use Rattle.at_core.proofs.LockLemmas.{hold_beside, hold_kept}
+use Rattle.at_core.proofs.Opening.{no_dictionary}
+
+-- a new pass that found a lock held, and took a row and gave it back, has no lock
+row_let_go : (v : View) (n : ℕ) (at : Moment) (l : lock.Lock) → holds l (given (locks.Row 0) (taken (locks.Row 0) (missed locks.Types (child v) n) at)) ≡ false
+row_let_go v n at locks.Types = refl
+row_let_go v n at (locks.Row zero) = refl
+row_let_go v n at (locks.Row (suc o)) =
+    let ne : locks.Row (suc o) ≢ locks.Row 0 = λ e. let same = ap slot_of e in omega arith in
+    ap (λ h. h.held) (hold_kept (locks.Row (suc o)) (locks.Row 0) (taken (locks.Row 0) (missed locks.Types (child v) n) at) ne ∙ hold_beside (locks.Row (suc o)) (locks.Row 0) (missed locks.Types (child v) n) at ne)
+
+-- The run, over any words and homes of which this is known
+module _ (opened : World) (limits : Limits) (words : List ℕ) (wide : length words ≡ table_words) (free : words_of words type_lock ≡ 0) (row_free : words_of words (row_lock 0) ≡ 0) (unmade : words_of words (head 0) ≡ 0) (begun : 0 < words_of words global_sequence)
+    (types : Stored) (agrees : (t : _) × (types ≡ stored.Types t) × TypesAgree limits.tags opened (opening_lists limits) t.value)
+    (homes : Homes) (body : Dictionary) (empty : body.map ≡ []) where
+  abbrev pub start : Core
+  start = record {
+    table = record { words = words; homes = some (Some types) ∷ some (Some (stored.Body body)) ∷ homes; views = first_view limits ∷ [] };
+    hands = λ id slot. None;
+    ghost = record { history = []; lists = opening_lists limits };
+  }
+
+  -- The types that are put in
+
+  -- the lists once the second pass is split off, and once it is taken in
+  abbrev pub split_lists : TypeLists
+  split_lists = lists_parted (opening_lists limits)
+
+  abbrev pub join_lists : TypeLists
+  join_lists = lists_joined split_lists 1
+
+  -- the types with other numbers
+  abbrev pub types_with : List Bool → Stored
+  types_with numbers = stored.Types (record agrees.0 { value = record agrees.0.value { numbers = numbers } })
+
+  pub agree_with : (lists : TypeLists) → lists.pool ≡ (opening_lists limits).pool → lists.limbo ≡ (opening_lists limits).limbo
+      → (t : _) × (types_with lists.numbers ≡ stored.Types t) × TypesAgree limits.tags opened lists t.value
+  agree_with lists pool limbo =
+      let g = agrees.2 in
+      (_, refl, record { stands = record { classes = g.stands.classes; objects = g.stands.objects }; size = g.size; numbers = refl; pool = g.pool ∙ sym pool; limbo = g.limbo ∙ sym limbo })
+
+  -- The words: the lock of the types is taken, found held and given back, and then a row is taken and given back
+
+  abbrev held_words : List ℕ
+  held_words = set words (number_of type_lock) 1
+
+  abbrev missed_words : List ℕ
+  missed_words = set held_words (number_of type_lock) (words_of held_words type_lock)
+
+  abbrev freed_words : List ℕ
+  freed_words = set missed_words (number_of type_lock) 0
+
+  abbrev row_words : List ℕ
+  row_words = set freed_words (number_of (row_lock 0)) 2
+
+  abbrev last_words : List ℕ
+  last_words = set row_words (number_of (row_lock 0)) 0
+
+  held_wide : length held_words ≡ table_words
+  held_wide = wide_still words (number_of type_lock) 1 wide
+
+  missed_wide : length missed_words ≡ table_words
+  missed_wide = wide_still held_words (number_of type_lock) (words_of held_words type_lock) held_wide
+
+  freed_wide : length freed_words ≡ table_words
+  freed_wide = wide_still missed_words (number_of type_lock) 0 missed_wide
+
+  row_wide : length row_words ≡ table_words
+  row_wide = wide_still freed_words (number_of (row_lock 0)) 2 freed_wide
+
+  busy : words_of held_words type_lock ≡ 1
+  busy = said_here words wide type_lock 1 refl
+
+  -- the lock of the types is free again, and no other word has changed
+  still : (a : Word) → is_same a type_lock ≡ false → words_of freed_words a ≡ words_of words a
+  still a ne = said_else missed_words missed_wide type_lock a 0 refl ne ∙ (said_else held_words held_wide type_lock a (words_of held_words type_lock) refl ne ∙ said_else words wide type_lock a 1 refl ne)
+
+  free_again : words_of last_words type_lock ≡ 0
+  free_again = said_else row_words row_wide (row_lock 0) type_lock 0 refl refl ∙ (said_else freed_words freed_wide (row_lock 0) type_lock 2 refl refl ∙ said_here missed_words missed_wide type_lock 0 refl)
+
+  -- The steps, each from where the one before leads
+
+  abbrev StepFrom : Event → Core → Type 0
+  StepFrom event a = (b : Core) × Goes opened event a b
+
+  abbrev takes_types : StepFrom (lock_take 0 locks.Types) start
+  takes_types = (_, record { view = _; value = types; makes = record { there = refl; live = refl }; asked = refl; is_lock = refl; free = free; home = refl; after = refl })
+
+  abbrev has_types_out : StepFrom (slot_out 0 locks.Types) takes_types.0
+  has_types_out = (_, (types, record { view = _; makes = record { there = refl; live = refl }; is_lock = refl; asked = refl; in_hand = refl; after = refl }))
+
+  abbrev splits_off : StepFrom (split 0) has_types_out.0
+  splits_off = (_, record { view = _; number = 1; makes = record { there = refl; live = refl }; out = refl; asked = record { alone = record { types = refl; rows = λ o. refl }; free = refl }; after = refl })
+
+  abbrev puts_types_in : StepFrom (slot_in 0 locks.Types (types_with split_lists.numbers)) splits_off.0
+  puts_types_in = (_, record { view = _; makes = record { there = refl; live = refl }; is_lock = refl; asked = refl; in_hand = refl; after = refl })
+
+  abbrev finds_held : StepFrom (lock_miss 1 locks.Types) puts_types_in.0
+  finds_held = (_, record { view = _; makes = record { there = refl; live = refl }; is_lock = refl; asked = refl; busy = λ e. let b = busy in absurd (omega arith); after = refl })
+
+  abbrev gives_types : StepFrom (lock_give 0 locks.Types) finds_held.0
+  gives_types = (
+    _,
+    record {
+      view = _;
+      value = types_with split_lists.numbers;
+      back = split_lists;
+      makes = record { there = refl; live = refl };
+      is_lock = refl;
+      in_hand = refl;
+      asked = record { held = refl; returns = refl; agrees = agree_with split_lists refl refl; shut = λ o on. absurd (true≢false (sym on)) };
+      after = refl;
+    },
+  )
+
+  abbrev takes_row : StepFrom (lock_take 1 (locks.Row 0)) gives_types.0
+  takes_row = (_, record { view = _; value = stored.Body body; makes = record { there = refl; live = refl }; asked = refl; is_lock = refl; free = still (row_lock 0) refl ∙ row_free; home = refl; after = refl })
+
+  abbrev gives_row : StepFrom (lock_give 1 (locks.Row 0)) takes_row.0
+  gives_row = (
+    _,
+    record {
+      view = _;
+      value = stored.Body body;
+      back = _;
+      makes = record { there = refl; live = refl };
+      is_lock = refl;
+      in_hand = refl;
+      asked = record { held = refl; returns = refl; agrees = (body, refl, record { full = λ h. absurd (no_dictionary _ (still (head 0) refl ∙ unmade) h); empty = λ _. empty }); shut = ap (λ (n : ℕ). n % 2) (still (head 0) refl ∙ unmade) };
+      after = refl;
+    },
+  )
+
+  abbrev takes_again : StepFrom (lock_take 0 locks.Types) gives_row.0
+  takes_again = (_, record { view = _; value = types_with split_lists.numbers; makes = record { there = refl; live = refl }; asked = refl; is_lock = refl; free = free_again; home = refl; after = refl })
+
+  abbrev has_out_again : StepFrom (slot_out 0 locks.Types) takes_again.0
+  has_out_again = (_, (types_with split_lists.numbers, record { view = _; makes = record { there = refl; live = refl }; is_lock = refl; asked = refl; in_hand = refl; after = refl }))
+
+  abbrev takes_in : StepFrom (join 0 1) has_out_again.0
+  takes_in = (
+    _,
+    record {
+      view = _;
+      joined = _;
+      makes = record { there = refl; live = refl };
+      apart = λ e. omega arith;
+      ends = record { there = refl; live = refl };
+      out = refl;
+      asked = record {
+        alone = record { types = refl; rows = λ o. refl };
+        child = omega arith;
+        lockless = row_let_go (taken locks.Types (first_view limits) (moment_of start)) (words_of held_words type_lock) (moment_of gives_types.0);
+        closed = refl;
+        offline = refl;
+      };
+      after = refl;
+    },
+  )
+
+  abbrev puts_in_again : StepFrom (slot_in 0 locks.Types (types_with join_lists.numbers)) takes_in.0
+  puts_in_again = (_, record { view = _; makes = record { there = refl; live = refl }; is_lock = refl; asked = refl; in_hand = refl; after = refl })
+
+  abbrev gives_again : StepFrom (lock_give 0 locks.Types) puts_in_again.0
+  gives_again = (
+    _,
+    record {
+      view = _;
+      value = types_with join_lists.numbers;
+      back = join_lists;
+      makes = record { there = refl; live = refl };
+      is_lock = refl;
+      in_hand = refl;
+      asked = record { held = refl; returns = refl; agrees = agree_with join_lists refl refl; shut = λ o on. absurd (true≢false (sym on)) };
+      after = refl;
+    },
+  )
+
+  -- the global sequence has not changed
+  abbrev closing_words : List ℕ
+  closing_words = set (set last_words (number_of type_lock) 1) (number_of type_lock) 0
+
+  abbrev offline_words : List ℕ
+  offline_words = set closing_words (number_of (own_sequence 0)) 0
+
+  last_wide : length last_words ≡ table_words
+  last_wide = wide_still row_words (number_of (row_lock 0)) 0 row_wide
+
+  taken_wide : length (set last_words (number_of type_lock) 1) ≡ table_words
+  taken_wide = wide_still last_words (number_of type_lock) 1 last_wide
+
+  pub global_still : words_of offline_words global_sequence ≡ words_of words global_sequence
+  global_still =
+      said_else closing_words (wide_still (set last_words (number_of type_lock) 1) (number_of type_lock) 0 taken_wide) (own_sequence 0) global_sequence 0 refl refl
+      ∙ (said_else (set last_words (number_of type_lock) 1) taken_wide type_lock global_sequence 0 refl refl
+      ∙ (said_else last_words last_wide type_lock global_sequence 1 refl refl
+      ∙ (said_else row_words row_wide (row_lock 0) global_sequence 0 refl refl
+      ∙ (said_else freed_words freed_wide (row_lock 0) global_sequence 2 refl refl ∙ still global_sequence refl))))
+
+  abbrev leaves : StepFrom (go_offline 0) gives_again.0
+  leaves = (_, record { view = _; makes = record { there = refl; live = refl }; asked = record { closed = refl }; after = refl })
+
+  abbrev looks_up : StepFrom (global_load 0) leaves.0
+  looks_up = (_, record { view = _; makes = record { there = refl; live = refl }; after = refl })
+
+  abbrev pub returns : StepFrom (go_online 0) looks_up.0
+  returns = (_, record { view = _; makes = record { there = refl; live = refl }; asked = record { offline = refl; loaded = subst (λ (n : ℕ). 0 < n) (sym global_still) begun; closed = refl }; after = refl })
+
+  -- those from the seventh on, and all
+  leads_on : Leads opened (drop 6 (lock_events (types_with split_lists.numbers) (types_with join_lists.numbers))) gives_types.0 returns.0
+  leads_on = (_, takes_row.1, (_, gives_row.1, (_, takes_again.1, (_, has_out_again.1, (_, takes_in.1, (_, puts_in_again.1, (_, gives_again.1, (_, leaves.1, (_, looks_up.1, (_, returns.1, refl))))))))))
+
+  pub locks_lead : Leads opened (lock_events (types_with split_lists.numbers) (types_with join_lists.numbers)) start returns.0
+  locks_lead = (_, takes_types.1, (_, has_types_out.1, (_, splits_off.1, (_, puts_types_in.1, (_, finds_held.1, (_, gives_types.1, leads_on))))))
