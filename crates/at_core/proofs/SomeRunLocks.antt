@@ -1,6 +1,6 @@
 -- The first part of the run that is written out: locks, passes and sequences.
-use Rattle.std.proofs.Common.{◌≡◌, ◌≢◌, ℕ, zero, suc, ◌<◌, ◌%◌, Bool, true, false, true≢false, IsTrue, List, [], ◌∷◌, length, map, set, drop, refl, sym, ap, ◌∙◌, subst, arith, length-set}
-use Rattle.std.specs.Prelude.{Some, None}
+use Rattle.std.proofs.Common.{◌≡◌, ◌≢◌, ℕ, zero, suc, ◌<◌, ◌%◌, Bool, true, false, true≢false, IsTrue, List, [], ◌∷◌, ◌++◌, length, map, take, drop, refl, sym, ap, ◌∙◌, subst, arith}
+use Rattle.std.specs.Prelude.{Some, None, ◌&&◌, not}
 use mathlib.Core.Option.{some}
 use Rattle.at_value.specs.declared.limits.Limits.{Limits}
 use Rattle.at_model.specs.World.{World}
@@ -8,7 +8,7 @@ use Rattle.at_dict.specs.Dictionary.{Dictionary}
 use Rattle.at_view.specs.declared.view.TypeLists.{TypeLists}
 use Rattle.at_view.specs.declared.view.View.{View}
 use Rattle.at_view.specs.Views.{first_view}
-use Rattle.at_view.specs.Words.{Word, number_of, is_there, is_same, table_words, type_lock, global_sequence, own_sequence, row_lock, head}
+use Rattle.at_view.specs.Words.{Word, is_same, table_words, type_lock, global_sequence, own_sequence, row_lock, head}
 use Rattle.at_core.specs.declared.lock.Lock as lock
 use Rattle.at_core.specs.declared.lock.Lock.TheVariants as locks
 use Rattle.at_core.specs.declared.stored.Stored.{Stored}
@@ -16,9 +16,9 @@ use Rattle.at_core.specs.declared.stored.Stored.TheVariants as stored
 use Rattle.at_core.specs.Locks.{slot_of, holds}
 use Rattle.at_core.specs.Rule.{Homes, TypesAgree, words_of}
 use Rattle.at_core.specs.Steps.{Moment, taken, missed, given, lists_parted, child, lists_joined}
-use Rattle.at_core.specs.Runs.{Core, Event, lock_take, lock_miss, lock_give, slot_out, slot_in, split, join, global_load, go_online, go_offline, moment_of, opening_lists, opening_words, Goes, Leads}
+use Rattle.at_core.specs.Runs.{Core, Event, lock_take, lock_miss, lock_give, slot_out, slot_in, split, join, global_load, go_online, go_offline, moment_of, words_at, opening_lists, opening_words, Goes, Leads}
 use Rattle.at_core.specs.SomeRun.{lock_events}
-use Rattle.at_core.proofs.SomeRunWords.{said_here, said_else, wide_still}
+use Rattle.at_core.proofs.SomeRunWords.{Store, puts, loads, with_stores, are_beside, said_here, said_beside, wide_with}
 use Rattle.at_core.proofs.LockLemmas.{hold_beside, hold_kept}
 use Rattle.at_core.proofs.Opening.{no_dictionary}
 
@@ -63,41 +63,34 @@ module _ (opened : World) (limits : Limits) (words : List ℕ) (wide : length wo
   -- The words: the lock of the types is taken, found held and given back, and then a row is taken and given back
 
   abbrev held_words : List ℕ
-  held_words = set words (number_of type_lock) 1
-
-  abbrev missed_words : List ℕ
-  missed_words = set held_words (number_of type_lock) (words_of held_words type_lock)
+  held_words = with_stores words (puts type_lock 1 ∷ [])
 
   abbrev freed_words : List ℕ
-  freed_words = set missed_words (number_of type_lock) 0
-
-  abbrev row_words : List ℕ
-  row_words = set freed_words (number_of (row_lock 0)) 2
-
-  abbrev last_words : List ℕ
-  last_words = set row_words (number_of (row_lock 0)) 0
+  freed_words = with_stores held_words (loads type_lock ∷ puts type_lock 0 ∷ [])
 
   held_wide : length held_words ≡ table_words
-  held_wide = wide_still words (number_of type_lock) 1 wide
-
-  missed_wide : length missed_words ≡ table_words
-  missed_wide = wide_still held_words (number_of type_lock) (words_of held_words type_lock) held_wide
+  held_wide = wide_with words (puts type_lock 1 ∷ []) wide
 
   freed_wide : length freed_words ≡ table_words
-  freed_wide = wide_still missed_words (number_of type_lock) 0 missed_wide
-
-  row_wide : length row_words ≡ table_words
-  row_wide = wide_still freed_words (number_of (row_lock 0)) 2 freed_wide
+  freed_wide = wide_with held_words (loads type_lock ∷ puts type_lock 0 ∷ []) held_wide
 
   busy : words_of held_words type_lock ≡ 1
   busy = said_here words wide type_lock 1 refl
 
   -- the lock of the types is free again, and no other word has changed
-  still : (a : Word) → is_same a type_lock ≡ false → words_of freed_words a ≡ words_of words a
-  still a ne = said_else missed_words missed_wide type_lock a 0 refl ne ∙ (said_else held_words held_wide type_lock a (words_of held_words type_lock) refl ne ∙ said_else words wide type_lock a 1 refl ne)
+  abbrev row_stores : List Store
+  row_stores = puts (row_lock 0) 2 ∷ puts (row_lock 0) 0 ∷ []
 
-  free_again : words_of last_words type_lock ≡ 0
-  free_again = said_else row_words row_wide (row_lock 0) type_lock 0 refl refl ∙ (said_else freed_words freed_wide (row_lock 0) type_lock 2 refl refl ∙ said_here missed_words missed_wide type_lock 0 refl)
+  still : (a : Word) → is_same a type_lock ≡ false → words_of freed_words a ≡ words_of words a
+  still a ne = said_beside words wide a (puts type_lock 1 ∷ loads type_lock ∷ puts type_lock 0 ∷ []) (ap (λ (b : Bool). not b && (not b && true)) ne)
+
+  missed_wide : length (with_stores held_words (loads type_lock ∷ [])) ≡ table_words
+  missed_wide = wide_with held_words (loads type_lock ∷ []) held_wide
+
+  free_again : words_of (with_stores freed_words row_stores) type_lock ≡ 0
+  free_again =
+      said_beside freed_words freed_wide type_lock row_stores refl
+      ∙ said_here (with_stores held_words (loads type_lock ∷ [])) missed_wide type_lock 0 refl
 
   -- The steps, each from where the one before leads
 
@@ -198,25 +191,14 @@ module _ (opened : World) (limits : Limits) (words : List ℕ) (wide : length wo
   )
 
   -- the global sequence has not changed
-  abbrev closing_words : List ℕ
-  closing_words = set (set last_words (number_of type_lock) 1) (number_of type_lock) 0
+  abbrev offline_stores : List Store
+  offline_stores = puts type_lock 1 ∷ loads type_lock ∷ puts type_lock 0 ∷ puts (row_lock 0) 2 ∷ puts (row_lock 0) 0 ∷ puts type_lock 1 ∷ puts type_lock 0 ∷ puts (own_sequence 0) 0 ∷ []
 
-  abbrev offline_words : List ℕ
-  offline_words = set closing_words (number_of (own_sequence 0)) 0
-
-  last_wide : length last_words ≡ table_words
-  last_wide = wide_still row_words (number_of (row_lock 0)) 0 row_wide
-
-  taken_wide : length (set last_words (number_of type_lock) 1) ≡ table_words
-  taken_wide = wide_still last_words (number_of type_lock) 1 last_wide
+  abbrev pub offline_words : List ℕ
+  offline_words = with_stores words offline_stores
 
   pub global_still : words_of offline_words global_sequence ≡ words_of words global_sequence
-  global_still =
-      said_else closing_words (wide_still (set last_words (number_of type_lock) 1) (number_of type_lock) 0 taken_wide) (own_sequence 0) global_sequence 0 refl refl
-      ∙ (said_else (set last_words (number_of type_lock) 1) taken_wide type_lock global_sequence 0 refl refl
-      ∙ (said_else last_words last_wide type_lock global_sequence 1 refl refl
-      ∙ (said_else row_words row_wide (row_lock 0) global_sequence 0 refl refl
-      ∙ (said_else freed_words freed_wide (row_lock 0) global_sequence 2 refl refl ∙ still global_sequence refl))))
+  global_still = said_beside words wide global_sequence offline_stores refl
 
   abbrev leaves : StepFrom (go_offline 0) gives_again.0
   leaves = (_, record { view = _; makes = record { there = refl; live = refl }; asked = record { closed = refl }; after = refl })
@@ -233,3 +215,27 @@ module _ (opened : World) (limits : Limits) (words : List ℕ) (wide : length wo
 
   pub locks_lead : Leads opened (lock_events (types_with split_lists.numbers) (types_with join_lists.numbers)) start returns.0
   locks_lead = (_, takes_types.1, (_, has_types_out.1, (_, splits_off.1, (_, puts_types_in.1, (_, finds_held.1, (_, gives_types.1, leads_on))))))
+
+  -- What the words say then
+
+  abbrev later_stores : List Store
+  later_stores = loads global_sequence ∷ puts (own_sequence 0) (words_of offline_words global_sequence) ∷ []
+
+  abbrev all_stores : List Store
+  all_stores = offline_stores ++ later_stores
+
+  pub locks_wide : length returns.0.table.words ≡ table_words
+  locks_wide = wide_with words all_stores wide
+
+  pub stays : (a : Word) → are_beside a all_stores ≡ true → words_at returns.0 a ≡ words_of words a
+  stays a beside = said_beside words wide a all_stores beside
+
+  pub type_lock_free : words_at returns.0 type_lock ≡ 0
+  type_lock_free =
+      said_beside (with_stores words (take 7 all_stores)) (wide_with words (take 7 all_stores) wide) type_lock (drop 7 all_stores) refl
+      ∙ said_here (with_stores words (take 6 all_stores)) (wide_with words (take 6 all_stores) wide) type_lock 0 refl
+
+  pub row_lock_free : words_at returns.0 (row_lock 0) ≡ 0
+  row_lock_free =
+      said_beside (with_stores words (take 5 all_stores)) (wide_with words (take 5 all_stores) wide) (row_lock 0) (drop 5 all_stores) refl
+      ∙ said_here (with_stores words (take 4 all_stores)) (wide_with words (take 4 all_stores) wide) (row_lock 0) 0 refl
