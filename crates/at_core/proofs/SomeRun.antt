@@ -150,7 +150,7 @@ module _ (limits : Limits) (room : 3 ≤ limits.place_max) (heads : 0 < limits.h
     joined,
     last,
     leads_then opening (lock_events parted joined) (class_events ++ object_events ++ value_events) start locked last locks_lead
-      (leads_then opening class_events (object_events ++ value_events) locked classed last class_leads (leads_then opening object_events value_events classed made last object_leads value_leads)),
+        (leads_then opening class_events (object_events ++ value_events) locked classed last class_leads (leads_then opening object_events value_events classed made last object_leads value_leads)),
   )
 
 -- where a list has this first, it is that and the rest
@@ -171,9 +171,9 @@ some_run_goes limits a room heads o =
     let there = has_index o.slots_are.bodies 0 (let e = o.slots_are.long in omega arith) in
     let body = o.slots_are.empty 0 there.0 there.1 in
     let bodies_are : o.slots_are.bodies ≡ Some (stored.Body body.0) ∷ drop 1 o.slots_are.bodies =
-        first_and_rest o.slots_are.bodies there.0 there.1 ∙ ap (λ x. x ∷ drop 1 o.slots_are.bodies) body.1 in
+    first_and_rest o.slots_are.bodies there.0 there.1 ∙ ap (λ x. x ∷ drop 1 o.slots_are.bodies) body.1 in
     let is : a ≡ first_core_with limits o.slots_are.types (Some (stored.Body body.0) ∷ drop 1 o.slots_are.bodies) =
-        first_core opening limits a o ∙ ap (first_core_with limits o.slots_are.types) bodies_are in
+    first_core opening limits a o ∙ ap (first_core_with limits o.slots_are.types) bodies_are in
     subst (λ s. (x y : Stored) × (b : Core) × Leads opening (some_events x y) s b) (sym is)
     (goes limits room heads opening_words long_enough refl (free_at_first locks.Types) (free_at_first (locks.Row 0)) (head_at_first 0) no_key_at_first (omega arith)
     o.slots_are.types o.slots_are.agrees (map some (drop 1 o.slots_are.bodies)) body.0 body.2)
