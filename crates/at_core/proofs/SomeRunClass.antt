@@ -1,5 +1,5 @@
 -- The second part of the run that is written out: a pass splits off, a key is appended, and a class is made.
-use Rattle.std.proofs.Common.{◌≡◌, ◌≢◌, ℕ, zero, suc, ◌<◌, ◌≤◌, true, false, List, [], ◌∷◌, length, get_or, set, refl, sym, ap, ◌∙◌, arith}
+use Rattle.std.proofs.Common.{◌≡◌, ◌≢◌, ℕ, zero, suc, ◌<◌, ◌≤◌, true, false, List, [], ◌∷◌, ◌++◌, length, get_or, set, refl, sym, ap, ◌∙◌, arith}
 use Rattle.std.specs.Prelude.{Some, None, nat_lt, slice_index}
 use Rattle.std.proofs.lemmas.Bool.Decides.{nat_tests}
 use mathlib.Core.Option.{some}
@@ -14,53 +14,58 @@ use Rattle.at_core.specs.declared.lock.Lock.TheVariants as locks
 use Rattle.at_core.specs.declared.stored.Stored.{Stored}
 use Rattle.at_core.specs.Rule.{Homes, listed, words_of}
 use Rattle.at_core.specs.Runs.{Core, Event, Hands, lock_take, slot_out, split, place_load, intent_store, commit, key_append, opening_numbers, words_at, Goes, Leads}
-use Rattle.at_core.specs.SomeRun.{first_class, word_in, class_events}
-use Rattle.at_core.proofs.SomeRunWords.{Store, puts, loads, with_stores, said_here, said_beside, wide_with}
+use Rattle.at_core.specs.SomeRun.{new_class, word_in, class_events}
+use Rattle.at_core.proofs.SomeRunWords.{Store, puts, loads, with_stores, listed_zero, are_beside, said_here, said_beside, wide_with}
 use Rattle.at_core.proofs.SomeRunWrites.{one_base, covers_none}
 
--- where each value is 0, so is each of a list of them
-listed_zero : (n : ℕ) (f : ℕ → ℕ) → ((i : ℕ) → f i ≡ 0) → (i : ℕ) → slice_index (listed n f) i ≡ 0
-listed_zero zero f none i = refl
-listed_zero (suc n) f none zero = none 0
-listed_zero (suc n) f none (suc i) = listed_zero n (λ j. f (suc j)) (λ j. none (suc j)) i
+-- what is known of words, slots, views and lists once the first part is done
+pub record ClassStart : Type 0 where
+  pub words : List ℕ
+  pub wide : length words ≡ table_words
+  pub unwritten : words_of words place ≡ 0
+  pub free : words_of words type_lock ≡ 0
+  pub keyless : (i : ℕ) → words_of words (key 1 i) ≡ 0
+  pub types : Stored
+  pub homes : Homes
+  pub first : View
+  pub second : View
+  pub hands : Hands
+  pub lists : TypeLists
 
--- Over any words, homes and views of which this is known
-module _ (limits : Limits) (room : 3 ≤ limits.place_max) (words : List ℕ) (wide : length words ≡ table_words) (unwritten : words_of words place ≡ 0)
-    (free : words_of words type_lock ≡ 0) (keyless : (i : ℕ) → words_of words (key 1 i) ≡ 0)
-    (types : Stored) (homes : Homes) (first second : View) (hands : Hands) (lists : TypeLists) where
+module _ (limits : Limits) (room : 3 ≤ limits.place_max) (s : ClassStart) where
   -- the first pass, which has no lock and intends nothing
   abbrev pub mover : View
-  mover = record first {
-    who = record first.who { live = true; number = 0; limits = limits };
-    history = record first.history { seen = [] };
+  mover = record s.first {
+    who = record s.first.who { live = true; number = 0; limits = limits };
+    history = record s.first.history { seen = [] };
     intent = blank.intent;
-    types = record first.types { hold = record first.types.hold { held = false } };
+    types = record s.first.types { hold = record s.first.types.hold { held = false } };
     holds = [];
     rows = [];
   }
 
   abbrev pub start : Core
   start = record {
-    table = record { words = words; homes = some (Some types) ∷ homes; views = mover ∷ second ∷ [] };
-    hands = hands;
-    ghost = record { history = []; lists = record lists { numbers = opening_numbers } };
+    table = record { words = s.words; homes = some (Some s.types) ∷ s.homes; views = mover ∷ s.second ∷ [] };
+    hands = s.hands;
+    ghost = record { history = []; lists = record s.lists { numbers = opening_numbers } };
   }
 
   abbrev StepFrom : Event → Core → Type 0
   StepFrom event a = (b : Core) × Goes opening event a b
 
   abbrev pub takes_types : StepFrom (lock_take 0 locks.Types) start
-  takes_types = (_, record { view = _; value = types; makes = record { there = refl; live = refl }; asked = refl; is_lock = refl; free = free; home = refl; after = refl })
+  takes_types = (_, record { view = _; value = s.types; makes = record { there = refl; live = refl }; asked = refl; is_lock = refl; free = s.free; home = refl; after = refl })
 
   abbrev pub has_types_out : StepFrom (slot_out 0 locks.Types) takes_types.0
-  has_types_out = (_, (types, record { view = _; makes = record { there = refl; live = refl }; is_lock = refl; asked = refl; in_hand = refl; after = refl }))
+  has_types_out = (_, (s.types, record { view = _; makes = record { there = refl; live = refl }; is_lock = refl; asked = refl; in_hand = refl; after = refl }))
 
   abbrev pub splits_off : StepFrom (split 0) has_types_out.0
   splits_off = (_, record { view = _; number = 1; makes = record { there = refl; live = refl }; out = refl; asked = record { alone = record { types = refl; rows = λ o. refl }; free = refl }; after = refl })
 
   -- no key of the class is used
-  pub no_key : (i : ℕ) → slice_index (listed keys (λ j. words_of words (key 1 j))) i ≡ 0
-  no_key i = listed_zero keys (λ j. words_of words (key 1 j)) keyless i
+  pub no_key : (i : ℕ) → slice_index (listed keys (λ j. words_of s.words (key 1 j))) i ≡ 0
+  no_key i = listed_zero keys (λ j. words_of s.words (key 1 j)) s.keyless i
 
   abbrev pub appends : StepFrom (key_append 0 1 0 20) splits_off.0
   appends = (
@@ -84,13 +89,13 @@ module _ (limits : Limits) (room : 3 ≤ limits.place_max) (words : List ℕ) (w
   abbrev pub loads_place : StepFrom (place_load 0) appends.0
   loads_place = (_, record { view = _; makes = record { there = refl; live = refl }; after = refl })
 
-  abbrev pub intends : StepFrom (intent_store 0 0 (word_in first_class 0)) loads_place.0
+  abbrev pub intends : StepFrom (intent_store 0 0 (word_in new_class 0)) loads_place.0
   intends = (_, record { view = _; makes = record { there = refl; live = refl }; index = omega arith; after = refl })
 
   pub fresh : nat_lt 0 limits.place_max ≡ true
   fresh = let yes : nat_lt 0 limits.place_max ≡ true = grind (arith, nat_tests, room) in yes
 
-  abbrev pub commits : StepFrom (commit 0 first_class) intends.0
+  abbrev pub commits : StepFrom (commit 0 new_class) intends.0
   commits = (
     _,
     record {
@@ -115,25 +120,21 @@ module _ (limits : Limits) (room : 3 ≤ limits.place_max) (words : List ℕ) (w
   -- What the words say then
 
   -- those before the write
-  abbrev stores : List Store
+  abbrev pub stores : List Store
   stores =
-      puts type_lock 1 ∷ puts (key 1 0) 21 ∷ loads place ∷ puts (intent 0 0) (word_in first_class 0) ∷ []
+      puts type_lock 1 ∷ puts (key 1 0) 21 ∷ loads place ∷ puts (intent 0 0) (word_in new_class 0) ∷ []
 
   pub one : words_at commits.0 place ≡ 1
-  one = said_here (with_stores words stores) (wide_with words stores wide) place _ refl ∙ ap suc (said_beside words wide place stores refl ∙ unwritten)
+  one = said_here (with_stores s.words stores) (wide_with s.words stores s.wide) place _ refl ∙ ap suc (said_beside s.words s.wide place stores refl ∙ s.unwritten)
 
-  abbrev write : Store
-  write = puts place (suc (words_of (with_stores words stores) place))
+  abbrev pub write : Store
+  write = puts place (suc (words_of (with_stores s.words stores) place))
 
   pub class_wide : length commits.0.table.words ≡ table_words
-  class_wide = wide_with (with_stores words stores) (write ∷ []) (wide_with words stores wide)
+  class_wide = wide_with (with_stores s.words stores) (write ∷ []) (wide_with s.words stores s.wide)
 
-  pub row_lock_stays : words_at commits.0 (row_lock 0) ≡ words_of words (row_lock 0)
-  row_lock_stays =
-      said_beside (with_stores words stores) (wide_with words stores wide) (row_lock 0) (write ∷ []) refl
-      ∙ said_beside words wide (row_lock 0) stores refl
+  abbrev pub all_stores : List Store
+  all_stores = stores ++ write ∷ []
 
-  pub head_stays : words_at commits.0 (head 0) ≡ words_of words (head 0)
-  head_stays =
-      said_beside (with_stores words stores) (wide_with words stores wide) (head 0) (write ∷ []) refl
-      ∙ said_beside words wide (head 0) stores refl
+  pub class_stays : (a : Word) → are_beside a all_stores ≡ true → words_at commits.0 a ≡ words_of s.words a
+  class_stays a beside = said_beside s.words s.wide a all_stores beside

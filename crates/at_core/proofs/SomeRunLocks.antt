@@ -3,7 +3,7 @@ use Rattle.std.proofs.Common.{◌≡◌, ◌≢◌, ℕ, zero, suc, ◌<◌, ◌
 use Rattle.std.specs.Prelude.{Some, None, ◌&&◌, not}
 use mathlib.Core.Option.{some}
 use Rattle.at_value.specs.declared.limits.Limits.{Limits}
-use Rattle.at_model.specs.World.{World}
+use Rattle.at_model.specs.World.{opening}
 use Rattle.at_dict.specs.Dictionary.{Dictionary}
 use Rattle.at_view.specs.declared.view.TypeLists.{TypeLists}
 use Rattle.at_view.specs.declared.view.View.{View}
@@ -30,13 +30,24 @@ row_let_go v n at (locks.Row (suc o)) =
     let ne : locks.Row (suc o) ≢ locks.Row 0 = λ e. let same = ap slot_of e in omega arith in
     ap (λ h. h.held) (hold_kept (locks.Row (suc o)) (locks.Row 0) (taken (locks.Row 0) (missed locks.Types (child v) n) at) ne ∙ hold_beside (locks.Row (suc o)) (locks.Row 0) (missed locks.Types (child v) n) at ne)
 
--- The run, over any words and homes of which this is known
-module _ (opened : World) (limits : Limits) (words : List ℕ) (wide : length words ≡ table_words) (free : words_of words type_lock ≡ 0) (row_free : words_of words (row_lock 0) ≡ 0) (unmade : words_of words (head 0) ≡ 0) (begun : 0 < words_of words global_sequence)
-    (types : Stored) (agrees : (t : _) × (types ≡ stored.Types t) × TypesAgree limits.tags opened (opening_lists limits) t.value)
-    (homes : Homes) (body : Dictionary) (empty : body.map ≡ []) where
+-- what is known at first of words and slots
+pub record LockStart (limits : Limits) : Type 0 where
+  pub words : List ℕ
+  pub wide : length words ≡ table_words
+  pub free : words_of words type_lock ≡ 0
+  pub row_free : words_of words (row_lock 0) ≡ 0
+  pub unmade : words_of words (head 0) ≡ 0
+  pub begun : 0 < words_of words global_sequence
+  pub types : Stored
+  pub agrees : (t : _) × (types ≡ stored.Types t) × TypesAgree limits.tags opening (opening_lists limits) t.value
+  pub body : Dictionary
+  pub empty : body.map ≡ []
+  pub homes : Homes
+
+module _ (limits : Limits) (s : LockStart limits) where
   abbrev pub start : Core
   start = record {
-    table = record { words = words; homes = some (Some types) ∷ some (Some (stored.Body body)) ∷ homes; views = first_view limits ∷ [] };
+    table = record { words = s.words; homes = some (Some s.types) ∷ some (Some (stored.Body s.body)) ∷ s.homes; views = first_view limits ∷ [] };
     hands = λ id slot. None;
     ghost = record { history = []; lists = opening_lists limits };
   }
@@ -52,37 +63,37 @@ module _ (opened : World) (limits : Limits) (words : List ℕ) (wide : length wo
 
   -- the types with other numbers
   abbrev pub types_with : List Bool → Stored
-  types_with numbers = stored.Types (record agrees.0 { value = record agrees.0.value { numbers = numbers } })
+  types_with numbers = stored.Types (record s.agrees.0 { value = record s.agrees.0.value { numbers = numbers } })
 
   pub agree_with : (lists : TypeLists) → lists.pool ≡ (opening_lists limits).pool → lists.limbo ≡ (opening_lists limits).limbo
-      → (t : _) × (types_with lists.numbers ≡ stored.Types t) × TypesAgree limits.tags opened lists t.value
+      → (t : _) × (types_with lists.numbers ≡ stored.Types t) × TypesAgree limits.tags opening lists t.value
   agree_with lists pool limbo =
-      let g = agrees.2 in
+      let g = s.agrees.2 in
       (_, refl, record { stands = record { classes = g.stands.classes; objects = g.stands.objects }; size = g.size; numbers = refl; pool = g.pool ∙ sym pool; limbo = g.limbo ∙ sym limbo })
 
   -- The words: the lock of the types is taken, found held and given back, and then a row is taken and given back
 
   abbrev held_words : List ℕ
-  held_words = with_stores words (puts type_lock 1 ∷ [])
+  held_words = with_stores s.words (puts type_lock 1 ∷ [])
 
   abbrev freed_words : List ℕ
   freed_words = with_stores held_words (loads type_lock ∷ puts type_lock 0 ∷ [])
 
   held_wide : length held_words ≡ table_words
-  held_wide = wide_with words (puts type_lock 1 ∷ []) wide
+  held_wide = wide_with s.words (puts type_lock 1 ∷ []) s.wide
 
   freed_wide : length freed_words ≡ table_words
   freed_wide = wide_with held_words (loads type_lock ∷ puts type_lock 0 ∷ []) held_wide
 
   busy : words_of held_words type_lock ≡ 1
-  busy = said_here words wide type_lock 1 refl
+  busy = said_here s.words s.wide type_lock 1 refl
 
   -- the lock of the types is free again, and no other word has changed
   abbrev row_stores : List Store
   row_stores = puts (row_lock 0) 2 ∷ puts (row_lock 0) 0 ∷ []
 
-  still : (a : Word) → is_same a type_lock ≡ false → words_of freed_words a ≡ words_of words a
-  still a ne = said_beside words wide a (puts type_lock 1 ∷ loads type_lock ∷ puts type_lock 0 ∷ []) (ap (λ (b : Bool). not b && (not b && true)) ne)
+  still : (a : Word) → is_same a type_lock ≡ false → words_of freed_words a ≡ words_of s.words a
+  still a ne = said_beside s.words s.wide a (puts type_lock 1 ∷ loads type_lock ∷ puts type_lock 0 ∷ []) (ap (λ (b : Bool). not b && (not b && true)) ne)
 
   missed_wide : length (with_stores held_words (loads type_lock ∷ [])) ≡ table_words
   missed_wide = wide_with held_words (loads type_lock ∷ []) held_wide
@@ -95,13 +106,13 @@ module _ (opened : World) (limits : Limits) (words : List ℕ) (wide : length wo
   -- The steps, each from where the one before leads
 
   abbrev StepFrom : Event → Core → Type 0
-  StepFrom event a = (b : Core) × Goes opened event a b
+  StepFrom event a = (b : Core) × Goes opening event a b
 
   abbrev takes_types : StepFrom (lock_take 0 locks.Types) start
-  takes_types = (_, record { view = _; value = types; makes = record { there = refl; live = refl }; asked = refl; is_lock = refl; free = free; home = refl; after = refl })
+  takes_types = (_, record { view = _; value = s.types; makes = record { there = refl; live = refl }; asked = refl; is_lock = refl; free = s.free; home = refl; after = refl })
 
   abbrev has_types_out : StepFrom (slot_out 0 locks.Types) takes_types.0
-  has_types_out = (_, (types, record { view = _; makes = record { there = refl; live = refl }; is_lock = refl; asked = refl; in_hand = refl; after = refl }))
+  has_types_out = (_, (s.types, record { view = _; makes = record { there = refl; live = refl }; is_lock = refl; asked = refl; in_hand = refl; after = refl }))
 
   abbrev splits_off : StepFrom (split 0) has_types_out.0
   splits_off = (_, record { view = _; number = 1; makes = record { there = refl; live = refl }; out = refl; asked = record { alone = record { types = refl; rows = λ o. refl }; free = refl }; after = refl })
@@ -128,19 +139,19 @@ module _ (opened : World) (limits : Limits) (words : List ℕ) (wide : length wo
   )
 
   abbrev takes_row : StepFrom (lock_take 1 (locks.Row 0)) gives_types.0
-  takes_row = (_, record { view = _; value = stored.Body body; makes = record { there = refl; live = refl }; asked = refl; is_lock = refl; free = still (row_lock 0) refl ∙ row_free; home = refl; after = refl })
+  takes_row = (_, record { view = _; value = stored.Body s.body; makes = record { there = refl; live = refl }; asked = refl; is_lock = refl; free = still (row_lock 0) refl ∙ s.row_free; home = refl; after = refl })
 
   abbrev gives_row : StepFrom (lock_give 1 (locks.Row 0)) takes_row.0
   gives_row = (
     _,
     record {
       view = _;
-      value = stored.Body body;
+      value = stored.Body s.body;
       back = _;
       makes = record { there = refl; live = refl };
       is_lock = refl;
       in_hand = refl;
-      asked = record { held = refl; returns = refl; agrees = (body, refl, record { full = λ h. absurd (no_dictionary _ (still (head 0) refl ∙ unmade) h); empty = λ _. empty }); shut = ap (λ (n : ℕ). n % 2) (still (head 0) refl ∙ unmade) };
+      asked = record { held = refl; returns = refl; agrees = (s.body, refl, record { full = λ h. absurd (no_dictionary _ (still (head 0) refl ∙ s.unmade) h); empty = λ _. s.empty }); shut = ap (λ (n : ℕ). n % 2) (still (head 0) refl ∙ s.unmade) };
       after = refl;
     },
   )
@@ -191,14 +202,14 @@ module _ (opened : World) (limits : Limits) (words : List ℕ) (wide : length wo
   )
 
   -- the global sequence has not changed
-  abbrev offline_stores : List Store
+  abbrev pub offline_stores : List Store
   offline_stores = puts type_lock 1 ∷ loads type_lock ∷ puts type_lock 0 ∷ puts (row_lock 0) 2 ∷ puts (row_lock 0) 0 ∷ puts type_lock 1 ∷ puts type_lock 0 ∷ puts (own_sequence 0) 0 ∷ []
 
   abbrev pub offline_words : List ℕ
-  offline_words = with_stores words offline_stores
+  offline_words = with_stores s.words offline_stores
 
-  pub global_still : words_of offline_words global_sequence ≡ words_of words global_sequence
-  global_still = said_beside words wide global_sequence offline_stores refl
+  pub global_still : words_of offline_words global_sequence ≡ words_of s.words global_sequence
+  global_still = said_beside s.words s.wide global_sequence offline_stores refl
 
   abbrev leaves : StepFrom (go_offline 0) gives_again.0
   leaves = (_, record { view = _; makes = record { there = refl; live = refl }; asked = record { closed = refl }; after = refl })
@@ -207,35 +218,35 @@ module _ (opened : World) (limits : Limits) (words : List ℕ) (wide : length wo
   looks_up = (_, record { view = _; makes = record { there = refl; live = refl }; after = refl })
 
   abbrev pub returns : StepFrom (go_online 0) looks_up.0
-  returns = (_, record { view = _; makes = record { there = refl; live = refl }; asked = record { offline = refl; loaded = subst (λ (n : ℕ). 0 < n) (sym global_still) begun; closed = refl }; after = refl })
+  returns = (_, record { view = _; makes = record { there = refl; live = refl }; asked = record { offline = refl; loaded = subst (λ (n : ℕ). 0 < n) (sym global_still) s.begun; closed = refl }; after = refl })
 
   -- those from the seventh on, and all
-  leads_on : Leads opened (drop 6 (lock_events (types_with split_lists.numbers) (types_with join_lists.numbers))) gives_types.0 returns.0
+  leads_on : Leads opening (drop 6 (lock_events (types_with split_lists.numbers) (types_with join_lists.numbers))) gives_types.0 returns.0
   leads_on = (_, takes_row.1, (_, gives_row.1, (_, takes_again.1, (_, has_out_again.1, (_, takes_in.1, (_, puts_in_again.1, (_, gives_again.1, (_, leaves.1, (_, looks_up.1, (_, returns.1, refl))))))))))
 
-  pub locks_lead : Leads opened (lock_events (types_with split_lists.numbers) (types_with join_lists.numbers)) start returns.0
+  pub locks_lead : Leads opening (lock_events (types_with split_lists.numbers) (types_with join_lists.numbers)) start returns.0
   locks_lead = (_, takes_types.1, (_, has_types_out.1, (_, splits_off.1, (_, puts_types_in.1, (_, finds_held.1, (_, gives_types.1, leads_on))))))
 
   -- What the words say then
 
-  abbrev later_stores : List Store
+  abbrev pub later_stores : List Store
   later_stores = loads global_sequence ∷ puts (own_sequence 0) (words_of offline_words global_sequence) ∷ []
 
-  abbrev all_stores : List Store
+  abbrev pub all_stores : List Store
   all_stores = offline_stores ++ later_stores
 
   pub locks_wide : length returns.0.table.words ≡ table_words
-  locks_wide = wide_with words all_stores wide
+  locks_wide = wide_with s.words all_stores s.wide
 
-  pub stays : (a : Word) → are_beside a all_stores ≡ true → words_at returns.0 a ≡ words_of words a
-  stays a beside = said_beside words wide a all_stores beside
+  pub stays : (a : Word) → are_beside a all_stores ≡ true → words_at returns.0 a ≡ words_of s.words a
+  stays a beside = said_beside s.words s.wide a all_stores beside
 
   pub type_lock_free : words_at returns.0 type_lock ≡ 0
   type_lock_free =
-      said_beside (with_stores words (take 7 all_stores)) (wide_with words (take 7 all_stores) wide) type_lock (drop 7 all_stores) refl
-      ∙ said_here (with_stores words (take 6 all_stores)) (wide_with words (take 6 all_stores) wide) type_lock 0 refl
+      said_beside (with_stores s.words (take 7 all_stores)) (wide_with s.words (take 7 all_stores) s.wide) type_lock (drop 7 all_stores) refl
+      ∙ said_here (with_stores s.words (take 6 all_stores)) (wide_with s.words (take 6 all_stores) s.wide) type_lock 0 refl
 
   pub row_lock_free : words_at returns.0 (row_lock 0) ≡ 0
   row_lock_free =
-      said_beside (with_stores words (take 5 all_stores)) (wide_with words (take 5 all_stores) wide) (row_lock 0) (drop 5 all_stores) refl
-      ∙ said_here (with_stores words (take 4 all_stores)) (wide_with words (take 4 all_stores) wide) (row_lock 0) 0 refl
+      said_beside (with_stores s.words (take 5 all_stores)) (wide_with s.words (take 5 all_stores) s.wide) (row_lock 0) (drop 5 all_stores) refl
+      ∙ said_here (with_stores s.words (take 4 all_stores)) (wide_with s.words (take 4 all_stores) s.wide) (row_lock 0) 0 refl

@@ -1,9 +1,9 @@
 -- Words after several stores.
-use Rattle.std.proofs.Common.{◌≡◌, ℕ, Bool, false, true, IsTrue, List, [], ◌∷◌, length, set, refl, ap, ◌∙◌, length-set}
-use Rattle.std.specs.Prelude.{◌&&◌, not}
+use Rattle.std.proofs.Common.{◌≡◌, ℕ, zero, suc, Bool, false, true, IsTrue, List, [], ◌∷◌, length, set, refl, ap, ◌∙◌, length-set}
+use Rattle.std.specs.Prelude.{◌&&◌, not, slice_index}
 use Rattle.std.proofs.lemmas.Bool.{and_parts, not-true}
 use Rattle.at_view.specs.Words.{Word, number_of, is_there, is_same, table_words}
-use Rattle.at_core.specs.Rule.{words_of}
+use Rattle.at_core.specs.Rule.{listed, words_of}
 use Rattle.at_core.proofs.WordLemmas.{updated_here, updated_else, reloaded, said, stored}
 
 -- a word that was stored, and another one
@@ -57,3 +57,9 @@ said_beside words wide a [] beside = refl
 said_beside words wide a (store ∷ stores) beside =
     let (one, others) = and_parts (is_beside a store) (are_beside a stores) beside in
     said_beside (with_store words store) (wide_with words (store ∷ []) wide) a stores others ∙ beside_one words wide a store one
+
+-- where each value is 0, so is each of a list of them
+pub listed_zero : (n : ℕ) (f : ℕ → ℕ) → ((i : ℕ) → f i ≡ 0) → (i : ℕ) → slice_index (listed n f) i ≡ 0
+listed_zero zero f none i = refl
+listed_zero (suc n) f none zero = none 0
+listed_zero (suc n) f none (suc i) = listed_zero n (λ j. f (suc j)) (λ j. none (suc j)) i
