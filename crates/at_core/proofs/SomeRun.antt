@@ -1,5 +1,5 @@
 -- The run that is written out.
-use Rattle.std.proofs.Common.{◌≡◌, ℕ, zero, suc, ◌-◌, ◌<◌, ◌≤◌, Bool, true, false, List, [], ◌∷◌, ◌++◌, length, map, get_or, drop, refl, sym, ap, ◌∙◌, subst, arith}
+use Rattle.std.proofs.Common.{◌≡◌, ℕ, zero, suc, ◌-◌, ◌<◌, ◌≤◌, Bool, true, false, List, [], ◌∷◌, ◌++◌, map, get_or, drop, refl, sym, ap, ◌∙◌, subst, arith}
 use Rattle.std.specs.Prelude.{Some, None, if◌then◌else◌}
 use Rattle.std.proofs.lemmas.List.{get_or-replicate}
 use mathlib.Core.Option.{some, none, some-injective, some-ne-none}
@@ -15,7 +15,7 @@ use Rattle.at_core.specs.declared.lock.Lock.TheVariants as locks
 use Rattle.at_core.specs.declared.stored.Stored.{Stored}
 use Rattle.at_core.specs.declared.stored.Stored.TheVariants as stored
 use Rattle.at_core.specs.Rule.{Slot, TypesAgree, words_of}
-use Rattle.at_core.specs.Runs.{Core, Event, lock_take, lock_miss, lock_give, slot_out, slot_in, split, join, global_load, go_online, go_offline, place_load, intent_store, commit, commit_if, commit_miss, head_load, inline_load, key_load, head_open, head_close, inline_store, key_append, opening_lists, opening_words, IsOpening, Leads}
+use Rattle.at_core.specs.Runs.{Core, Event, lock_take, lock_miss, lock_give, slot_out, slot_in, split, join, global_load, go_online, go_offline, place_load, intent_store, commit, commit_if, commit_miss, head_load, inline_load, key_load, head_open, head_close, inline_store, key_append, opening_lists, opening_words, Leads}
 use Rattle.at_core.specs.SomeRun.{some_events, lock_events, class_events, object_events, value_events, HaveEachKind, SomeRunGoes}
 use Rattle.at_core.proofs.SomeRunWords.{are_beside}
 use Rattle.at_core.proofs.SomeRunLocks as first_part
@@ -205,8 +205,8 @@ some_run_goes limits a room heads o =
     let body = o.slots_are.empty 0 there.0 there.1 in
     let next_body = o.slots_are.empty 1 next.0 next.1 in
     let bodies_are : o.slots_are.bodies ≡ Some (stored.Body body.0) ∷ Some (stored.Body next_body.0) ∷ drop 2 o.slots_are.bodies =
-        goes_on o.slots_are.bodies 0 there.0 there.1 ∙ (ap (λ x. x ∷ drop 1 o.slots_are.bodies) body.1
-        ∙ ap (λ xs. Some (stored.Body body.0) ∷ xs) (goes_on o.slots_are.bodies 1 next.0 next.1 ∙ ap (λ x. x ∷ drop 2 o.slots_are.bodies) next_body.1)) in
+    goes_on o.slots_are.bodies 0 there.0 there.1 ∙ (ap (λ x. x ∷ drop 1 o.slots_are.bodies) body.1
+    ∙ ap (λ xs. Some (stored.Body body.0) ∷ xs) (goes_on o.slots_are.bodies 1 next.0 next.1 ∙ ap (λ x. x ∷ drop 2 o.slots_are.bodies) next_body.1)) in
     subst (λ s. (x y : Stored) × (b : Core) × Leads opening (some_events x y) s b)
     (sym (first_core opening limits a o ∙ ap (opening_core limits o.slots_are.types) bodies_are))
     (goes limits room heads o.slots_are.types o.slots_are.agrees body.0 body.2 next_body.0 (drop 2 o.slots_are.bodies))

@@ -1,15 +1,15 @@
 -- The second part of the run that is written out: a pass splits off, a key is appended, and a class is made.
-use Rattle.std.proofs.Common.{◌≡◌, ◌≢◌, ℕ, zero, suc, ◌<◌, ◌≤◌, true, false, List, [], ◌∷◌, ◌++◌, length, get_or, set, refl, sym, ap, ◌∙◌, arith}
-use Rattle.std.specs.Prelude.{Some, None, nat_lt, slice_index}
+use Rattle.std.proofs.Common.{◌≡◌, ℕ, suc, ◌≤◌, true, false, List, [], ◌∷◌, ◌++◌, length, refl, ap, ◌∙◌, arith}
+use Rattle.std.specs.Prelude.{Some, nat_lt, slice_index}
 use Rattle.std.proofs.lemmas.Bool.Decides.{nat_tests}
 use mathlib.Core.Option.{some}
 use Rattle.at_value.specs.declared.limits.Limits.{Limits}
 use Rattle.at_model.specs.World.{opening}
 use Rattle.at_view.specs.declared.view.TypeLists.{TypeLists}
 use Rattle.at_view.specs.declared.view.View.{View}
-use Rattle.at_view.specs.Counts.{intent_words, keys}
+use Rattle.at_view.specs.Counts.{keys}
 use Rattle.at_view.specs.Views.{blank}
-use Rattle.at_view.specs.Words.{Word, number_of, table_words, place, type_lock, intent, key, row_lock, head}
+use Rattle.at_view.specs.Words.{Word, table_words, place, type_lock, intent, key}
 use Rattle.at_core.specs.declared.lock.Lock.TheVariants as locks
 use Rattle.at_core.specs.declared.stored.Stored.{Stored}
 use Rattle.at_core.specs.Rule.{Homes, listed, words_of}

@@ -1,5 +1,5 @@
 -- The first part of the run that is written out: locks, passes and sequences.
-use Rattle.std.proofs.Common.{◌≡◌, ◌≢◌, ℕ, zero, suc, ◌<◌, ◌%◌, Bool, true, false, true≢false, IsTrue, List, [], ◌∷◌, ◌++◌, length, map, take, drop, refl, sym, ap, ◌∙◌, subst, arith}
+use Rattle.std.proofs.Common.{◌≡◌, ◌≢◌, ℕ, zero, suc, ◌<◌, ◌%◌, Bool, true, false, true≢false, List, [], ◌∷◌, ◌++◌, length, take, drop, refl, sym, ap, ◌∙◌, subst, arith}
 use Rattle.std.specs.Prelude.{Some, None, ◌&&◌, not}
 use mathlib.Core.Option.{some}
 use Rattle.at_value.specs.declared.limits.Limits.{Limits}
@@ -16,7 +16,7 @@ use Rattle.at_core.specs.declared.stored.Stored.TheVariants as stored
 use Rattle.at_core.specs.Locks.{slot_of, holds}
 use Rattle.at_core.specs.Rule.{Homes, TypesAgree, words_of}
 use Rattle.at_core.specs.Steps.{Moment, taken, missed, given, lists_parted, child, lists_joined}
-use Rattle.at_core.specs.Runs.{Core, Event, lock_take, lock_miss, lock_give, slot_out, slot_in, split, join, global_load, go_online, go_offline, moment_of, words_at, opening_lists, opening_words, Goes, Leads}
+use Rattle.at_core.specs.Runs.{Core, Event, lock_take, lock_miss, lock_give, slot_out, slot_in, split, join, global_load, go_online, go_offline, moment_of, words_at, opening_lists, Goes, Leads}
 use Rattle.at_core.specs.SomeRun.{lock_events}
 use Rattle.at_core.proofs.SomeRunWords.{Store, puts, loads, with_stores, are_beside, said_here, said_beside, wide_with}
 use Rattle.at_core.proofs.LockLemmas.{hold_beside, hold_kept}

@@ -41,27 +41,30 @@ word_in operation j = slice_index (words_of operation) j
 abbrev pub head_of : (layout row : ℕ) → ℕ
 head_of layout row = 2 + 2 ^ sequence_bits * (1 + 2 ^ class_bits * (layout + 2 ^ layout_bits * row))
 
--- The first pass takes the lock of the types and the types, and splits a third off. It appends a key to the class 1, which it
--- then makes.
+-- The first pass takes the lock of the types and the types, and splits a third off. It appends a key to the class 1,
+-- which it then makes.
 abbrev pub class_events : List Event
 class_events =
     lock_take 0 locks.Types ∷ slot_out 0 locks.Types ∷ split 0 ∷ key_append 0 1 0 20
     ∷ place_load 0 ∷ intent_store 0 0 (word_in new_class 0) ∷ commit 0 new_class ∷ []
 
--- It takes a row, opens the head of the object 0, makes that object, closes the head with the layout of a dictionary, and gives
--- the row back.
+-- It takes a row, opens the head of the object 0, makes that object, closes the head with the layout of a dictionary,
+-- and gives the row back.
 abbrev pub object_events : List Event
 object_events =
-    lock_take 0 (locks.Row 0) ∷ head_open 0 0 ∷ place_load 0 ∷ intent_store 0 0 (word_in new_object 0) ∷ commit 0 new_object
+    lock_take 0 (locks.Row 0) ∷ head_open 0 0
+    ∷ place_load 0 ∷ intent_store 0 0 (word_in new_object 0) ∷ commit 0 new_object
     ∷ head_close 0 0 (head_of dictionary 0) ∷ lock_give 0 (locks.Row 0) ∷ []
 
--- It takes another row, opens the head of the object 1, and stores an inline value. The third pass takes the row of the object 0
--- and intends to give that a value. Now the first makes the object 1, with inline values: so the third finds another place than
--- it has seen. It loads the place again, and then writes. Last it loads the other head, an inline value and a key.
+-- It takes another row, opens the head of the object 1, and stores an inline value. The third pass takes the row of
+-- the object 0 and intends to give that a value. Now the first makes the object 1, with inline values: so the third
+-- finds another place than it has seen. It loads the place again, and then writes. Last it loads the other head, an
+-- inline value and a key.
 abbrev pub value_events : List Event
 value_events =
     lock_take 0 (locks.Row 1) ∷ head_open 0 1 ∷ inline_store 0 1 0 0
-    ∷ lock_take 2 (locks.Row 0) ∷ place_load 2 ∷ intent_store 2 0 (word_in first_value 0) ∷ intent_store 2 1 (word_in first_value 1)
+    ∷ lock_take 2 (locks.Row 0) ∷ place_load 2
+    ∷ intent_store 2 0 (word_in first_value 0) ∷ intent_store 2 1 (word_in first_value 1)
     ∷ place_load 0 ∷ commit 0 new_object ∷ head_close 0 1 (head_of inline 1)
     ∷ commit_miss 2 first_value ∷ place_load 2 ∷ commit_if 2 first_value
     ∷ head_load 2 1 ∷ inline_load 2 1 0 ∷ key_load 2 1 0 ∷ []
@@ -99,8 +102,9 @@ abbrev pub HaveEachKind : Type 0
 HaveEachKind =
     (parted joined : Stored) (event : Event) → Contains (map kind_of (some_events parted joined)) (kind_of event)
 
--- From every opening state these events lead on, for some values that are put in, where there are places for three writes and a
--- head can be written.
+-- From every opening state these events lead on, for some values that are put in, where there are places for three
+-- writes and a head can be written.
 abbrev pub SomeRunGoes : Type 0
-SomeRunGoes = (limits : Limits) (a : Core) → 3 ≤ limits.place_max → 0 < limits.head_max → IsOpening (opening_of limits) limits a
+SomeRunGoes =
+    (limits : Limits) (a : Core) → 3 ≤ limits.place_max → 0 < limits.head_max → IsOpening (opening_of limits) limits a
     → (parted joined : Stored) × (b : Core) × Leads (opening_of limits) (some_events parted joined) a b
