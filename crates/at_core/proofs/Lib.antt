@@ -26,6 +26,12 @@ pub mod Moves
 pub mod AllRuns
 pub mod LivePasses
 pub mod Allowed
+pub mod SomeRunWords
+pub mod SomeRunWrites
+pub mod SomeRunLocks
+pub mod SomeRunClass
+pub mod SomeRunObject
+pub mod SomeRunValue
 pub mod SomeRun
 pub mod AllowedPlaces
 pub mod HandOf

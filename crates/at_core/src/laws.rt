@@ -13,7 +13,8 @@ pub fn every_run()
     ensures kept { EveryRunHolds }
 {}
 
-/// There are such runs: this one goes from every opening state, and each kind of step is made in it.
+/// There are such runs: this one goes from every opening state of a table whose limits leave places for three writes
+/// and let a head be written, and each kind of step is made in it.
 pub fn some_run()
     ensures kinds { HaveEachKind }
     ensures goes { SomeRunGoes }
