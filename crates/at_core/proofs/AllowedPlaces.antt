@@ -123,20 +123,25 @@ module _ (opened : World) (limits : Limits) where
       )
 
   -- or the place that the pass has seen, and no other
-  pub commits_if : (slots id : ℕ) (me : Me Slot View) (operation : op.Op) → me.0.who.live ≡ true → MayCommitIf opened me.0 operation
+  pub commits_if : (slots id : ℕ) (me : Me Slot View) (operation : op.Op) (new : ℕ) → me.0.who.live ≡ true → MayCommitIf opened me.0 operation → new ≡ (length me.0.history.seen + 1) % 2 ^ 64
       → let g = length me.0.history.seen in
-      Allows (Base opened limits) slots id me (number_of place) (λ n. either (eqb n g) (suc g) n) (CommitsIf opened (step slots (number_of place) g (suc g) none) me)
-  commits_if slots id me operation live may s b deep at small =
+      Allows (Base opened limits) slots id me (number_of place) (λ n. either (eqb n g) new n) (CommitsIf opened (step slots (number_of place) g new none) me)
+  commits_if slots id me operation new live may new_is s b deep at small =
       let v = me.0 in
       let g = b.ghost in
       let n : ℕ = get_or s.words (number_of place) 0 in
       let l : ℕ = length v.history.seen in
       let word : words_of s.words place ≡ n = said s.words place refl in
       let F : ℕ → Type 0 = λ k. (w : View) × (a : Act Slot) × Valid s.homes me.1 a × Base opened limits (stepped s (number_of place) k id me.1 w a)
-      × CommitsIf opened (step slots (number_of place) l (suc l) none) me n (w, carried_after me.1 a) in
-      exchanged n l (suc l) F
+      × CommitsIf opened (step slots (number_of place) l new none) me n (w, carried_after me.1 a) in
+      exchanged n l new F
       (λ found.
       let here : words_of s.words place ≡ l = word ∙ found in
+      let has = sum_has weight (map fresh_read s.views) id (fresh_read v) (at_map fresh_read s.views id v at) in
+      let one : weight (fresh_read v) ≡ 1 = ap weight may.write.fresh in
+      let room = b.holds.parts.room in
+      let wide = b.holds.small in
+      let next : suc (words_of s.words place) ≡ new = omega (arith, has, one, room, wide, here, new_is) in
       let same : v.history.seen ≡ g.history = all_seen opened limits s g b.holds id v at live me.1 operation here in
       (
         written kinds.CommitIf v v.history.seen operation,
@@ -144,7 +149,7 @@ module _ (opened : World) (limits : Limits) where
         tt,
         record {
           ghost = record g { history = g.history ++ operation ∷ [] };
-          holds = subst (λ (x : ℕ × List op.Op). Holds opened limits (stepped s (number_of place) (suc x.0) id me.1 (written kinds.CommitIf v x.1 operation) keeps) (record g { history = g.history ++ operation ∷ [] })) (λ i. (here i, sym same i))
+          holds = subst (λ (x : ℕ × List op.Op). Holds opened limits (stepped s (number_of place) x.0 id me.1 (written kinds.CommitIf v x.1 operation) keeps) (record g { history = g.history ++ operation ∷ [] })) (λ i. (next i, sym same i))
               (exchange_moves opened limits s g b.holds id v at live me.1 operation may here);
         },
         λ _ other intends.

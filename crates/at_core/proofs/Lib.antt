@@ -35,5 +35,6 @@ pub mod SomeRunValue
 pub mod SomeRun
 pub mod AllowedPlaces
 pub mod HandOf
+pub mod PassSteps
 pub mod Written
 pub mod HeldStays

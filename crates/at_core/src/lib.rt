@@ -9,6 +9,7 @@ pub mod lock;
 pub mod locking;
 mod open_world;
 mod pass;
+pub mod places;
 pub mod sequences;
 pub mod stored;
 #[cfg(test)]
