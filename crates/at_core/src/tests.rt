@@ -1,9 +1,11 @@
 //! The steps of the core on a world of its own, and the laws. Each call of a law does nothing: its contract is proved.
-ghost use Rattle.std.specs.Prelude.{◌≡◌, ◌<◌, length};
+ghost use Rattle.std.specs.Prelude.{◌≡◌, ◌<◌, [], length};
+ghost use Rattle.at_view.specs.Views.{first_view};
 ghost use Rattle.at_core.specs.Locks.{HoldsNone};
 ghost use Rattle.at_core.specs.Passes.{view, hand, IsOf, IsSame};
 
 use crate::locking::{slot_in, slot_out, try_lock, unlock};
+use crate::places::{commit, load_place, store_intent};
 use crate::world::MOST_HELD;
 use crate::{Lock, OpenFault, Pass, Stored, World, laws};
 use at_value::{Limits, Obj};
@@ -99,5 +101,32 @@ fn a_row_goes_back(rt: HostRuntime) -> Result<(), OpenFault> {
     let (world, mut pass) = World::open(rt.alloc(), Limits::program())?;
     let lock = Lock::Row(Obj::new(4_095).unwrap());
     assert_eq!(rt; take_and_give(&world, &mut pass, &lock), 0);
+    Ok(())
+}
+
+/// Word 0 of the operation that makes class 1 with the one base `object`; its other words are 0.
+const CLASS_ONE: u64 = 16_777_473;
+
+/// The first pass takes the lock of the types and makes a class; it gives the place before, or none where it found the lock held.
+fn make_class(world: &World, pass: &mut Pass) -> Option<u64>
+    requires of { IsOf pass.old world.now }
+    requires first { view pass.old ≡ first_view world.now.limits }
+    requires empty { hand pass.old ≡ [] }
+    requires room { 0 < world.now.limits.place_max }
+    ensures same { IsSame pass.old pass.new × IsOf pass.new world.now }
+{
+    if try_lock(world, pass, Lock::Types) != 0 {
+        return None;
+    }
+    load_place(world, pass);
+    store_intent(world, pass, 0, CLASS_ONE);
+    Some(commit(world, pass))
+}
+
+#[test]
+fn a_class_takes_the_first_place(rt: HostRuntime) -> Result<(), OpenFault> {
+    let (world, mut pass) = World::open(rt.alloc(), Limits::program())?;
+    assert_eq!(rt; make_class(&world, &mut pass), Some(0));
+    assert_eq!(rt; load_place(&world, &mut pass), 1);
     Ok(())
 }
