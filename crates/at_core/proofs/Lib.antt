@@ -34,6 +34,7 @@ pub mod SomeRunObject
 pub mod SomeRunValue
 pub mod SomeRun
 pub mod AllowedPlaces
+pub mod AllowedHeads
 pub mod HandOf
 pub mod PassSteps
 pub mod Written

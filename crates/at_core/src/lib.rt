@@ -4,6 +4,8 @@
 
 pub mod family;
 mod hand;
+pub mod heads;
+pub mod keys;
 pub mod laws;
 pub mod lock;
 pub mod locking;
