@@ -28,7 +28,7 @@ use Rattle.at_core.specs.Locks.{lock_word, slot_of, hold_of, holds, IsUnchanged,
 use Rattle.at_core.specs.Reads.{kin_read, kept_read, types_read, row_read, limit_read, join_read}
 use Rattle.at_core.specs.Rule.{Slot, Board, Ghost, Holds, Base, IsLock, Agrees, words_of, heads_of, keys_of, values_of, shape_under}
 use Rattle.at_core.specs.Steps.{Moment, hold_from, keys_of_class, taken, missed, given, lists_given, ValueAgrees, MayGive, MaySplit, parted, child, lists_parted, MayJoin, merged, lists_joined, global_loaded, gone_online, gone_offline, copied_heads}
-use Rattle.at_core.specs.Plays.{RowSays, RowIsNamed, Took, Takes, Brought, Gives, LoadsGlobal, GoesOnline, GoesOffline}
+use Rattle.at_core.specs.Plays.{RowSays, RowsAreNamed, Took, Takes, Brought, Gives, LoadsGlobal, GoesOnline, GoesOffline}
 use Rattle.at_core.proofs.Prefixes.{prefix_self, prefix_trans, prefix_shorter}
 use Rattle.at_core.proofs.WordLemmas.{said}
 use Rattle.at_core.proofs.LockLemmas.{lock_cases, hold_taken, hold_beside, copy_taken, copy_beside, unchanged_self}
@@ -49,9 +49,6 @@ word_one (locks.Row o) (locks.Row p) e = ap (λ (n : ℕ). locks.Row n) (ap firs
 -- the lock that has a word is one
 pub lock_one : (l k : lock.Lock) → IsLock l → IsLock k → number_of (lock_word l) ≡ number_of (lock_word k) → l ≡ k
 lock_one l k is is' e = word_one l k (apart (lock_word l) (lock_word k) is is' e)
-
-row_one : (k r : ℕ) → locks.Row k ≡ locks.Row r → k ≡ r
-row_one k r same = let e = ap slot_of same in omega arith
 
 -- what a lock has kept, where this is what is known of it
 kept_of : {opened : World} {history : List op.Op} (l : lock.Lock) (w : View) (hold : Hold) → hold ≡ hold_of l w → IsPrefix hold.since history → hold.entered ≤ length hold.since
@@ -116,26 +113,27 @@ module _ (opened : World) (limits : Limits) where
           whole_head o free,
           record {
             object = says.object;
+            blank = λ e. subst (λ (f : ℕ → ℕ). (i : ℕ) → f i ≡ 0) values_are (says.blank e);
             row = says.row;
             values = λ e. subst (λ (x : (ℕ → ℕ) × (ℕ → ℕ)). AreValuesOf (slice_index_or (replay opened g.history).dicts o []) x.0 x.1) (λ i. (keys_are i, values_are i)) (says.values e);
           },
         )
 
+    -- the copy of the head of each row that is held is the head
+    head_is : (l : lock.Lock) (k : ℕ) → holds (locks.Row k) (taken l v now) ≡ true → (locks.Row k ≡ l) ⊎ (locks.Row k ≢ l) → copied_heads (taken l v now) k ≡ heads_of (words_of s.words) k
+    head_is l k held (inl same) = subst (λ (j : lock.Lock). copied_heads (taken j v now) k ≡ heads_of (words_of s.words) k) same (ap (λ w. w.head) (copy_taken k v now))
+    head_is l k held (inr other) =
+        let had : holds (locks.Row k) v ≡ true = ap (λ y. y.held) (sym (hold_beside (locks.Row k) l v now other)) ∙ held in
+        ap (λ w. w.head) (copy_beside k l v now other) ∙ ap (λ w. w.head) (h.parts.rows k id (row_read k v) (at_map (row_read k) s.views id v at) had)
+
     -- and it is one of a dictionary where a row that is held names it
-    row_named : (l : lock.Lock) → RowIsNamed l (taken l v now)
-    row_named locks.Types = tt
-    row_named (locks.Row r) = λ names.
-        let head_is : (k : ℕ) → holds (locks.Row k) (taken (locks.Row r) v now) ≡ true → copied_heads (taken (locks.Row r) v now) k ≡ heads_of (words_of s.words) k = λ k held. by_lock k held (lock_cases (locks.Row k) (locks.Row r)) in
-        let has : HasDictionary (shape_of (heads_of (words_of s.words) names.0)) = subst (λ (n : ℕ). HasDictionary (shape_of n)) (head_is names.0 names.1) names.2 in
-        let row : (shape_of (heads_of (words_of s.words) names.0)).row ≡ r = ap (λ (n : ℕ). (shape_of n).row) (sym (head_is names.0 names.1)) ∙ names.3 in
+    rows_named : (l : lock.Lock) → RowsAreNamed (taken l v now)
+    rows_named l r on names =
+        let is : (k : ℕ) → holds (locks.Row k) (taken l v now) ≡ true → copied_heads (taken l v now) k ≡ heads_of (words_of s.words) k = λ k held. head_is l k held (lock_cases (locks.Row k) l) in
+        let has : HasDictionary (shape_of (heads_of (words_of s.words) names.0)) = subst (λ (n : ℕ). HasDictionary (shape_of n)) (is names.0 names.1) names.2 in
+        let row : (shape_of (heads_of (words_of s.words) names.0)).row ≡ r = ap (λ (n : ℕ). (shape_of n).row) (sym (is names.0 names.1)) ∙ names.3 in
         let there : HasDictionary (shape_of (heads_of (words_of s.words) r)) = subst (λ (k : ℕ). HasDictionary (shape_of (heads_of (words_of s.words) k))) row (h.parts.headed.rows_are names.0 has) in
-        subst (λ (n : ℕ). HasDictionary (shape_of n)) (sym (ap (λ w. w.head) (copy_taken r v now))) there
-      where
-        by_lock : (k : ℕ) → holds (locks.Row k) (taken (locks.Row r) v now) ≡ true → (locks.Row k ≡ locks.Row r) ⊎ (locks.Row k ≢ locks.Row r) → copied_heads (taken (locks.Row r) v now) k ≡ heads_of (words_of s.words) k
-        by_lock k held (inl same) = subst (λ (j : ℕ). copied_heads (taken (locks.Row r) v now) j ≡ heads_of (words_of s.words) j) (sym (row_one k r same)) (ap (λ w. w.head) (copy_taken r v now))
-        by_lock k held (inr other) =
-            let had : holds (locks.Row k) v ≡ true = ap (λ y. y.held) (sym (hold_beside (locks.Row k) (locks.Row r) v now other)) ∙ held in
-            ap (λ w. w.head) (copy_beside k (locks.Row r) v now other) ∙ ap (λ w. w.head) (h.parts.rows k id (row_read k v) (at_map (row_read k) s.views id v at) had)
+        subst (λ (n : ℕ). HasDictionary (shape_of n)) (sym (is r on)) there
 
     pub took : (l : lock.Lock) (x : Stored) → words_of s.words (lock_word l) ≡ 0 → Agrees limits (replay opened g.history) g.lists (shape_under (heads_of (words_of s.words)) l) l x → Took opened l v now x
     took l x free a = record {
@@ -144,7 +142,7 @@ module _ (opened : World) (limits : Limits) where
       proper = h.parts.history.proper;
       kept = λ k. kept_so k l (lock_cases k l);
       head = row_says l free;
-      named = row_named l;
+      named = rows_named l;
       value = value_right l x a;
       numbers = h.parts.numbers.whole;
       born = h.parts.kin.below id (kin_read v) (at_map kin_read s.views id v at);

@@ -22,7 +22,7 @@ use Rattle.at_view.specs.Counts.{keys, inline_values}
 use Rattle.at_view.specs.Words.{is_there, number_of, head, key, inline_value}
 use Rattle.at_core.specs.declared.lock.Lock as lock
 use Rattle.at_core.specs.declared.lock.Lock.TheVariants as locks
-use Rattle.at_core.specs.Heads.{class_of, IsWhole, IsOpened}
+use Rattle.at_core.specs.Heads.{class_of, shape_of, inline, IsWhole, IsOpened}
 use Rattle.at_core.specs.HeadSteps.{head_loaded, inline_loaded, key_loaded, copied_values, copied_keys_of}
 use Rattle.at_core.specs.HeadPlays.{Says, Shows, SawHead, LoadsHead, SawCell, LoadsInline, SawKey, LoadsKey}
 use Rattle.at_core.specs.Inline.{AreKeys, HaveGrown, IsObjectOf}
@@ -38,6 +38,7 @@ use Rattle.at_core.proofs.Parts.{seen_begins, holder_is}
 use Rattle.at_core.proofs.HeadFrames.{listed_at, listed_all}
 use Rattle.at_core.proofs.Looking.{values_then, head_load_moves, inline_load_moves, key_load_moves}
 use Rattle.at_core.proofs.Writing.{no_key}
+use Rattle.at_core.proofs.AllowedPlaces.{saw}
 
 -- what says what an object is says so of each world in which the object is the same
 object_then : (now then_was : World) (o word : ℕ) → slice_get now.objects o ≡ slice_get then_was.objects o → IsObjectOf now o word → IsObjectOf then_was o word
@@ -66,6 +67,7 @@ module _ (opened : World) (limits : Limits) where
         record {
           object = subst (IsObjectOf (replay opened look.at) look.object) e
               (object_then (replay opened g.history) (replay opened look.at) look.object (heads_of (words_of s.words) look.object) (b.object e whole g.history b.begins (prefix_self g.history)) says.object);
+          row = λ inlined. subst (λ (n : ℕ). (shape_of n).row ≡ look.object) e (says.row (subst (λ (n : ℕ). (shape_of n).layout ≡ inline) (sym e) inlined.1));
           stays = b.object e whole v.history.seen begins seen;
           born = λ inlined. b.born e inlined v.history.seen begins seen;
           cells = λ inlined. b.cells e inlined;
@@ -88,11 +90,12 @@ module _ (opened : World) (limits : Limits) where
         no_types j u e ne types true on = absurd (ne (holder_is locks.Types (words_of s.words (lock_word locks.Types)) s.views id v (h.parts.locks locks.Types) at types j u e on))
         no_types j u e ne types false off = off
 
-    saw_head : (o : ℕ) → SawHead opened v o (heads_of (words_of s.words) o) g.history (keys_of (words_of s.words))
-    saw_head o = record {
-      later = seen;
+    saw_head : (live : v.who.live ≡ true) (o : ℕ) → SawHead opened v o (heads_of (words_of s.words) o) g.history (keys_of (words_of s.words))
+    saw_head live o = record {
+      saw = saw opened limits s g h id v at live;
       keys = h.parts.headed.keys;
       object = λ whole. ((h.parts.headed.heads_are o).says whole).object;
+      row = λ inlined. ((h.parts.headed.heads_are o).says inlined.0).row inlined.1;
       class = class_shown o;
       copy = λ held. sym (ap (λ r. r.head) (h.parts.rows o id (row_read o v) (at_map (row_read o) s.views id v at) held));
       looks = All-weaker Backs (Shows opened o (heads_of (words_of s.words) o) (keys_of (words_of s.words)) v.history.seen) (shows o) v.looks backed;
@@ -133,7 +136,7 @@ module _ (opened : World) (limits : Limits) where
         λ k less is.
             let same : o ≡ k = omega (arith, is) in
             let R : ℕ → Type 0 = λ x. (h : List op.Op) × (f : ℕ → ℕ → ℕ) × ◌≡◌ {A = Me Slot View} (head_loaded me.0 o b.ghost.history n, me.1) (head_loaded me.0 x h n, me.1) × SawHead opened me.0 x n h f in
-            subst R same (b.ghost.history, keys_of (words_of s.words), refl, saw_head s b.ghost b.holds id me.0 at o),
+            subst R same (b.ghost.history, keys_of (words_of s.words), refl, saw_head s b.ghost b.holds id me.0 at live o),
       )
 
   -- an inline value is loaded

@@ -23,7 +23,7 @@ use Rattle.at_core.specs.Locks.{hold_of, holds, AreKeptAt}
 use Rattle.at_core.specs.Looks.{IsBacked}
 use Rattle.at_core.specs.PlaceSteps.{place_loaded, intent_stored, Intends, MayWrite, MayCommit, MayCommitIf, written, unwritten}
 use Rattle.at_core.specs.PlacePlays.{Saw, AreEarlier, LoadsPlace, StoresIntent, Commits, CommitsIf}
-use Rattle.at_core.specs.Reads.{fresh_read, kept_read, looks_read}
+use Rattle.at_core.specs.Reads.{fresh_read, kept_read, looks_read, limit_read}
 use Rattle.at_core.specs.Rule.{Slot, Board, Ghost, Holds, Base, weight, words_of, heads_of, keys_of}
 use Rattle.at_core.specs.Writes.{IsSameAt}
 use Rattle.at_core.proofs.Lists.{sum_has}
@@ -117,6 +117,7 @@ module _ (opened : World) (limits : Limits) where
               counted s g b.holds id v at live n refl,
               ap (λ (o : op.Op). (written kinds.Commit v g.history o, me.1)) is,
               saw s g b.holds id v at live,
+              (let limit = ap (λ (l : Limits). l.place_max) (b.holds.parts.limited id (limit_read v) (at_map limit_read s.views id v at) live) in omega (arith, has, one, room, word, limit)),
               subst (λ (o : op.Op). IsProper opened (g.history ++ o ∷ [])) is (proper_snoc opened g.history operation b.holds.parts.history.proper (subst IsTrue (sym same.write) may.write.write)),
               subst (λ (o : op.Op). IsSameAt (replay opened v.history.seen) (replay opened g.history) o) is same,
             ),

@@ -96,6 +96,10 @@ module _ (opened : World) (limits : Limits) (words : Words) (homes : Homes) (vie
     small = λ j. dite (ℕ_discrete j i)
         (λ (e : j ≡ i). let lt = may.name in let is : keys_of after c j ≡ suc n = ap (keys_of after c) e ∙ here in omega (arith, lt, is))
         (λ (ne : j ≢ i). let le = (p.headed.keys c).small j in let is = beside j ne in omega (arith, le, is));
+    past = λ j le.
+        let less = may.index in
+        let other : j ≢ i = λ e. omega (arith, le, less, e) in
+        beside j other ∙ (p.headed.keys c).past j le;
     first = λ a b le z. dite (ℕ_discrete a i)
         (λ (e : a ≡ i). let is : keys_of after c a ≡ suc n = ap (keys_of after c) e ∙ here in absurd (omega (arith, is, z)))
         (λ (ne : a ≢ i).
@@ -159,6 +163,7 @@ module _ (opened : World) (limits : Limits) (words : Words) (homes : Homes) (vie
         let s = (p.headed.heads_are k).says whole in
         record {
           object = s.object;
+          blank = s.blank;
           row = s.row;
           values = λ inlined. values_grow _ (keys_of words (class_of (heads_of words k))) (keys_of after (class_of (heads_of words k))) (values_of words k) (keys_after (class_of (heads_of words k))) (grown (class_of (heads_of words k))) (s.values inlined);
         };

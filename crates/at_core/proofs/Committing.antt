@@ -286,6 +286,7 @@ module _ (opened : World) (limits : Limits) (words : Words) (homes : Homes) (vie
         let same = object_stays o (not_moved o whole) in
         record {
           object = record { known = s.object.known; absent = λ e. ((s.object.absent e).0, same ∙ (s.object.absent e).1); present = λ e. same ∙ s.object.present e };
+          blank = s.blank;
           row = s.row;
           values = λ e.
               let stays = row_stays o (not_row o (whole, e)) (not_moved o whole) in

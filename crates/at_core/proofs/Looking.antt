@@ -22,7 +22,7 @@ use Rattle.at_view.specs.Counts.{keys, inline_values}
 use Rattle.at_view.specs.Words.{is_there, number_of, head, key, inline_value}
 use Rattle.at_core.specs.Heads.{class_of, IsWhole, IsInline}
 use Rattle.at_core.specs.HeadSteps.{head_loaded, with_cell, inline_loaded, with_key, key_loaded}
-use Rattle.at_core.specs.Inline.{AreKeys, AreValuesOf, HaveGrown, IsHeadOf}
+use Rattle.at_core.specs.Inline.{AreValuesOf, HaveGrown, IsHeadOf, IsWordUnder}
 use Rattle.at_core.specs.Looks.{keys_at, born_with, BornStays, CellSays, KeyStays, UnusedSays, IsBacked}
 use Rattle.at_core.specs.Reads.{known_read, looks_read}
 use Rattle.at_core.specs.Rule.{Slot, Board, Ghost, Holds, HeadParts, KnownRule, LookRule, listed, copied_keys, words_of, heads_of, row_locks_of, keys_of, values_of}
@@ -68,7 +68,7 @@ module _ {opened : World} {heads rows : ℕ → ℕ} {keys_are values_are : ℕ 
         let pairs = born_with opened look.at look.object in
         let cell : InlineCell = record { object = o; index = i; key = keys_are (class_of look.word) i; word = word } in
         All-cons (CellSays look.object pairs) cell look.cells
-        (λ mine n k. is ∙ (ap (λ (x : ℕ). values_are x i) mine ∙ (values_then look b e inlined).under i n k))
+        (λ mine n k. subst (IsWordUnder n pairs) (sym (is ∙ ap (λ (x : ℕ). values_are x i) mine)) ((values_then look b e inlined).under i n k))
         (b.cells e inlined);
     unused = b.unused;
   }

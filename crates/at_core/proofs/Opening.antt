@@ -144,13 +144,14 @@ module _ (opened : World) (limits : Limits) (a : Core) (allowed : IsAllowed limi
   v : View
   v = first_view limits
 
-  no_object : (k : ℕ) (keys_are : ℕ → ℕ → ℕ) (values : ℕ → ℕ) → IsHeadOf opened k 0 keys_are values
-  no_object k keys_are values = record {
+  no_object : (k : ℕ) (keys_are : ℕ → ℕ → ℕ) (values : ℕ → ℕ) → ((i : ℕ) → values i ≡ 0) → IsHeadOf opened k 0 keys_are values
+  no_object k keys_are values none = record {
     object = record {
       known = omega arith;
       absent = λ _. (refl, ap (λ (objects : List Object). slice_get objects k) o.objectless ∙ nothing k);
       present = λ ne. absurd (ne (omega arith));
     };
+    blank = λ e. none;
     row = λ e. let z : (shape_of 0).layout ≡ 1 = e in absurd (omega arith);
     values = λ e. let z : (shape_of 0).layout ≡ 1 = e in absurd (omega arith);
   }
@@ -221,13 +222,14 @@ module _ (opened : World) (limits : Limits) (a : Core) (allowed : IsAllowed limi
     };
     headed = record {
       heads_are = λ k. record {
-        says = λ whole. subst (λ (n : ℕ). IsHeadOf opened k n (keys_of (words_of opening_words)) (values_of (words_of opening_words) k)) (sym (head_at_first k)) (no_object k (keys_of (words_of opening_words)) (values_of (words_of opening_words) k));
+        says = λ whole. subst (λ (n : ℕ). IsHeadOf opened k n (keys_of (words_of opening_words)) (values_of (words_of opening_words) k)) (sym (head_at_first k)) (no_object k (keys_of (words_of opening_words)) (values_of (words_of opening_words) k) (value_at_first k));
         owned = λ odd. let z = head_at_first k in absurd (odd_even (heads_of (words_of opening_words) k) odd (omega arith));
       };
       open_are = λ k odd. let z = head_at_first k in absurd (odd_even (heads_of (words_of opening_words) k) odd (omega arith));
       rows_are = λ k h. absurd (no_dictionary (heads_of (words_of opening_words) k) (head_at_first k) h);
       keys = λ c. record {
         small = λ i. let z = key_at_first c i in omega arith;
+        past = λ i le. key_at_first c i;
         first = λ i j le e. key_at_first c j;
         distinct = λ i j n e e'. let z = key_at_first c i in absurd (omega arith);
       };

@@ -86,7 +86,7 @@ opening_core limits types bodies = record {
 }
 
 -- The parts one after another
-module _ (limits : Limits) (room : 3 ≤ limits.place_max) (heads : 0 < limits.head_max)
+module _ (limits : Limits) (room : 4 ≤ limits.place_max) (heads : 0 < limits.head_max)
     (types : Stored) (agrees : (t : _) × (types ≡ stored.Types t) × TypesAgree limits.tags opening (opening_lists limits) t.value)
     (body : Dictionary) (empty : body.map ≡ []) (next_body : Dictionary) (bodies : List Slot) where
   abbrev at_first : LockStart limits

@@ -32,7 +32,7 @@ pub record ClassStart : Type 0 where
   pub hands : Hands
   pub lists : TypeLists
 
-module _ (limits : Limits) (room : 3 ≤ limits.place_max) (s : ClassStart) where
+module _ (limits : Limits) (room : 4 ≤ limits.place_max) (s : ClassStart) where
   -- the first pass, which has no lock and intends nothing
   abbrev pub mover : View
   mover = record s.first {

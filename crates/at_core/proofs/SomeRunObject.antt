@@ -36,7 +36,7 @@ pub record ObjectStart : Type 0 where
   pub hands : Hands
   pub lists : TypeLists
 
-module _ (limits : Limits) (room : 3 ≤ limits.place_max) (heads : 0 < limits.head_max) (s : ObjectStart) where
+module _ (limits : Limits) (room : 4 ≤ limits.place_max) (heads : 0 < limits.head_max) (s : ObjectStart) where
   -- the first pass, which has the lock of the types and no row
   abbrev pub mover : View
   mover = record s.first {
@@ -113,6 +113,7 @@ module _ (limits : Limits) (room : 3 ≤ limits.place_max) (heads : 0 < limits.h
         made = λ e. absurd (omega arith);
         says = record {
           object = record { known = omega arith; absent = λ e. absurd (omega arith); present = λ e. refl };
+          blank = λ e. absurd (omega arith);
           row = λ e. absurd (omega arith);
           values = λ e. absurd (omega arith);
         };

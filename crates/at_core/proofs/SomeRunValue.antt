@@ -46,7 +46,7 @@ pub record ValueStart : Type 0 where
   pub hands : Hands
   pub lists : TypeLists
 
-module _ (limits : Limits) (room : 3 ≤ limits.place_max) (heads : 0 < limits.head_max) (s : ValueStart) where
+module _ (limits : Limits) (room : 4 ≤ limits.place_max) (heads : 0 < limits.head_max) (s : ValueStart) where
   -- the first pass, which has the lock of the types
   abbrev pub mover : View
   mover = record s.first {
@@ -157,6 +157,7 @@ module _ (limits : Limits) (room : 3 ≤ limits.place_max) (heads : 0 < limits.h
         made = λ e. absurd (omega arith);
         says = record {
           object = record { known = omega arith; absent = λ e. absurd (omega arith); present = λ e. refl };
+          blank = λ e. absurd (omega arith);
           row = λ e. refl;
           values = λ e. record { under = λ i n is. no_value i; named = λ n none. refl; past = λ i none. no_value i };
         };
@@ -214,6 +215,7 @@ module _ (limits : Limits) (room : 3 ≤ limits.place_max) (heads : 0 < limits.h
           covers = covers_row _ _ _ 0 refl refl (refl, not_in_words);
         };
         alone = refl;
+        below = omega (arith, room);
       };
       moved = λ e. let t = three in absurd (omega arith);
       after = refl;
@@ -246,6 +248,7 @@ module _ (limits : Limits) (room : 3 ≤ limits.place_max) (heads : 0 < limits.h
           covers = covers_row _ _ _ 0 refl refl (refl, not_in_words);
         };
         alone = refl;
+        below = omega (arith, room);
       };
       found = three_still;
       after = refl;

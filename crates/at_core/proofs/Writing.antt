@@ -178,6 +178,7 @@ module _ (opened : World) (limits : Limits) (s : Board) (g : Ghost) (h : Holds o
             let says = may.says in
             record {
               object = record { known = says.object.known; absent = λ e. ((says.object.absent e).0, kept.0 ∙ (says.object.absent e).1); present = λ e. kept.0 ∙ says.object.present e };
+              blank = λ e. absurd (may.made e);
               row = says.row;
               values = λ e.
                   let old = subst (λ pairs. AreValuesOf pairs (known_keys v (class_of word)) (copied_values v o)) (sym (get_or-same (replay opened g.history).dicts (replay opened (hold_of (locks.Row o) v).since).dicts o [] kept.1)) (says.values e) in

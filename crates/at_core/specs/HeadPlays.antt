@@ -13,11 +13,12 @@ use Rattle.at_view.specs.declared.view.View.{View}
 use Rattle.at_view.specs.Counts.{keys, inline_values}
 use Rattle.at_view.specs.Words.{number_of, head, key, inline_value}
 use Rattle.at_core.specs.declared.lock.Lock.TheVariants as locks
-use Rattle.at_core.specs.Heads.{class_of, IsWhole, IsOpened, IsInline}
+use Rattle.at_core.specs.Heads.{class_of, shape_of, IsWhole, IsOpened, IsInline}
 use Rattle.at_core.specs.HeadSteps.{head_loaded, inline_loaded, key_loaded, head_opened, head_closed, inline_stored, key_appended, copied_values, copied_keys_of}
 use Rattle.at_core.specs.Inline.{AreKeys, HaveGrown, NoneIs, IsCell, IsObjectOf}
 use Rattle.at_core.specs.Locks.{holds}
 use Rattle.at_core.specs.Looks.{keys_at, born_with, CellSays, KeyStays, UnusedSays}
+use Rattle.at_core.specs.PlacePlays.{Saw}
 use Rattle.at_core.specs.Rule.{Slot}
 use Rattle.at_core.specs.Steps.{copied_heads}
 
@@ -26,6 +27,7 @@ use Rattle.at_core.specs.Steps.{copied_heads}
 -- that has no key has no value.
 pub record Says (opened : World) (keys_are : ℕ → ℕ → ℕ) (seen : List op.Op) (look : HeadLook) : Type 0 where
   pub object : IsObjectOf (replay opened look.at) look.object look.word
+  pub row : IsInline look.word → (shape_of look.word).row ≡ look.object
   pub stays : slice_get (replay opened seen).objects look.object ≡ slice_get (replay opened look.at).objects look.object
   pub born : IsInline look.word → born_with opened seen look.object ≡ born_with opened look.at look.object
   pub cells : IsInline look.word → All (CellSays look.object (born_with opened look.at look.object)) look.cells
@@ -37,12 +39,14 @@ pub record Says (opened : World) (keys_are : ℕ → ℕ → ℕ) (seen : List o
 abbrev pub Shows : World → ℕ → ℕ → (ℕ → ℕ → ℕ) → List op.Op → HeadLook → Type 0
 Shows opened o word keys_are seen look = look.object ≡ o → word ≡ look.word → IsWhole look.word → IsPrefix look.at seen → Says opened keys_are seen look
 
--- What a load of a head tells: what a head that is whole says of its object; the class of an object whose head is open, to who has
+-- What a load of a head tells: the history of the moment, in which each lock that is held has kept what it protects; what a head
+-- that is whole says of its object; the class of an object whose head is open, to who has
 -- the lock of the types; that it is the copy of who has the row; and what all earlier looks at the object say.
 pub record SawHead (opened : World) (v : View) (o word : ℕ) (at : List op.Op) (keys_are : ℕ → ℕ → ℕ) : Type 0 where
-  pub later : IsPrefix v.history.seen at
+  pub saw : Saw opened v at
   pub keys : (c : ℕ) → AreKeys (keys_are c)
   pub object : IsWhole word → IsObjectOf (replay opened at) o word
+  pub row : IsInline word → (shape_of word).row ≡ o
   pub class : IsOpened word → holds locks.Types v ≡ true → holds (locks.Row o) v ≡ false
       → (found : Object) → slice_get (replay opened at).objects o ≡ Some found → found.class ≡ class_of word
   pub copy : holds (locks.Row o) v ≡ true → word ≡ copied_heads v o

@@ -11,7 +11,7 @@ use Rattle.at_view.specs.declared.view.HeadLook.{HeadLook}
 use Rattle.at_view.specs.declared.view.InlineCell.{InlineCell}
 use Rattle.at_view.specs.declared.view.KeyCell.{KeyCell}
 use Rattle.at_core.specs.Heads.{class_of, sequence_of, IsWhole, IsInline}
-use Rattle.at_core.specs.Inline.{word_under}
+use Rattle.at_core.specs.Inline.{IsWordUnder}
 
 -- the keys that a class is known to have: the first entry counts
 abbrev pub keys_at : ℕ → List ClassKeys → List ℕ
@@ -34,7 +34,7 @@ BornStays opened o at history = (point : List op.Op) → IsPrefix at point → I
 
 -- an inline value of the object stands under the key that was there
 abbrev pub CellSays : ℕ → Map → InlineCell → Type 0
-CellSays o pairs cell = cell.object ≡ o → (n : ℕ) → cell.key ≡ suc n → cell.word ≡ word_under n pairs
+CellSays o pairs cell = cell.object ≡ o → (n : ℕ) → cell.key ≡ suc n → IsWordUnder n pairs cell.word
 
 -- a key that was found used stays
 abbrev pub KeyStays : (ℕ → ℕ → ℕ) → KeyCell → Type 0

@@ -1,5 +1,5 @@
 -- What each step on the count of writes tells the pass that makes it.
-use Rattle.std.specs.Prelude.{ℕ, suc, ◌≡◌, ◌≢◌, ◌<◌, List, [], ◌∷◌, ◌++◌, length, All}
+use Rattle.std.specs.Prelude.{ℕ, suc, ◌≡◌, ◌≢◌, ◌<◌, ◌+◌, List, [], ◌∷◌, ◌++◌, length, All}
 use mathlib.Core.List.{IsPrefix}
 use Rattle.atomic_table.specs.Table.{Me, Step}
 use Rattle.at_value.specs.declared.operation.Op as op
@@ -8,7 +8,7 @@ use Rattle.at_model.specs.History.{replay, IsProper}
 use Rattle.at_view.specs.declared.mark.StepKind.TheVariants as kinds
 use Rattle.at_view.specs.declared.view.HeadLook.{HeadLook}
 use Rattle.at_view.specs.declared.view.View.{View}
-use Rattle.at_view.specs.Counts.{intent_words}
+use Rattle.at_view.specs.Counts.{passes, intent_words}
 use Rattle.at_view.specs.Words.{number_of, place, intent}
 use Rattle.at_core.specs.Locks.{AreKeptAt}
 use Rattle.at_core.specs.PlaceSteps.{place_loaded, intent_stored, Intends, written, unwritten}
@@ -41,7 +41,7 @@ StoresIntent st m n m' = (j : ℕ) → j < intent_words → st.word ≡ number_o
 -- seen.
 abbrev pub Commits : World → Step Slot → Me Slot View → ℕ → Me Slot View → Type 0
 Commits opened st m n m' = st.word ≡ number_of place → (operation : op.Op) → Intends m.0 operation
-    → (at : List op.Op) × (length at ≡ n) × (m' ≡ (written kinds.Commit m.0 at operation, m.1)) × Saw opened m.0 at
+    → (at : List op.Op) × (length at ≡ n) × (m' ≡ (written kinds.Commit m.0 at operation, m.1)) × Saw opened m.0 at × (n < m.0.who.limits.place_max + passes)
     × IsProper opened (at ++ operation ∷ []) × IsSameAt (replay opened m.0.history.seen) (replay opened at) operation
 
 -- So does one at the place that the pass has seen, where that is the place; else it writes nothing.

@@ -1,5 +1,5 @@
 -- Steps on the count of writes: a place is loaded, an operation is intended, and a write takes the next place.
-use Rattle.std.specs.Prelude.{ℕ, suc, ◌≡◌, ◌||◌, nat_lt, true, false, IsTrue, List, [], ◌∷◌, ◌++◌, length, map, Some, None, slice_set, Contains}
+use Rattle.std.specs.Prelude.{ℕ, suc, ◌≡◌, ◌<◌, ◌||◌, nat_lt, true, false, IsTrue, List, [], ◌∷◌, ◌++◌, length, map, Some, None, slice_set, Contains}
 use Rattle.at_value.specs.declared.operation.Op as op
 use Rattle.at_value.specs.Packing.{HasWords}
 use Rattle.at_model.specs.World.{World}
@@ -58,10 +58,12 @@ pub record MayCommit (opened : World) (v : View) (operation : op.Op) : Type 0 wh
   pub write : MayWrite opened v operation
   pub types : holds locks.Types v ≡ true
 
--- a commit at the place that the pass has seen, and at no other, is of a write that needs no lock of the types
+-- a commit at the place that the pass has seen, and at no other, is of a write that needs no lock of the types, and that place is
+-- below the limit
 pub record MayCommitIf (opened : World) (v : View) (operation : op.Op) : Type 0 where
   pub write : MayWrite opened v operation
   pub alone : needs_types operation ≡ false
+  pub below : length v.history.seen < v.who.limits.place_max
 
 -- what a lock keeps counts from this history on
 abbrev pub stamped : List op.Op → RowHold → RowHold

@@ -35,10 +35,9 @@ abbrev pub RowSays : World → lock.Lock → View → Type 0
 RowSays opened locks.Types v = Unit {0}
 RowSays opened (locks.Row o) v = IsWhole (copied_heads v o) × IsHeadOf (replay opened (hold_of (locks.Row o) v).since) o (copied_heads v o) (known_keys v) (copied_values v o)
 
--- where an object whose row it has names the dictionary of this row, the row's own object has the layout of a dictionary too
-abbrev pub RowIsNamed : lock.Lock → View → Type 0
-RowIsNamed locks.Types v = Unit {0}
-RowIsNamed (locks.Row r) v = NamesRow v r → HasDictionary (shape_of (copied_heads v r))
+-- where one object of which it has the row names the dictionary of another, that has the layout of a dictionary too
+abbrev pub RowsAreNamed : View → Type 0
+RowsAreNamed v = (r : ℕ) → holds (locks.Row r) v ≡ true → NamesRow v r → HasDictionary (shape_of (copied_heads v r))
 
 -- What a pass that took the lock learns of the moment: it comes after what it had seen, and is that where the pass is alone;
 -- the value in the slot is right; each lock that is held has kept what it protects; with a row comes what its head says;
@@ -50,7 +49,7 @@ pub record Took (opened : World) (l : lock.Lock) (v : View) (at : Moment) (x : S
   pub value : ValueAgrees opened l (taken l v at) at.lists x
   pub kept : AreKept opened (taken l v at)
   pub head : RowSays opened l (taken l v at)
-  pub named : RowIsNamed l (taken l v at)
+  pub named : RowsAreNamed (taken l v at)
   pub numbers : length at.lists.numbers ≡ passes
   pub born : v.history.birth < at.lists.next_birth
   pub younger : (b : ℕ) → 0 < times b (v.who.children ++ births_of v.kept) → b < at.lists.next_birth

@@ -102,9 +102,9 @@ abbrev pub HaveEachKind : Type 0
 HaveEachKind =
     (parted joined : Stored) (event : Event) → Contains (map kind_of (some_events parted joined)) (kind_of event)
 
--- From every opening state these events lead on, for some values that are put in, where there are places for three
+-- From every opening state these events lead on, for some values that are put in, where there are places for four
 -- writes and a head can be written.
 abbrev pub SomeRunGoes : Type 0
 SomeRunGoes =
-    (limits : Limits) (a : Core) → 3 ≤ limits.place_max → 0 < limits.head_max → IsOpening (opening_of limits) limits a
+    (limits : Limits) (a : Core) → 4 ≤ limits.place_max → 0 < limits.head_max → IsOpening (opening_of limits) limits a
     → (parted joined : Stored) × (b : Core) × Leads (opening_of limits) (some_events parted joined) a b

@@ -15,7 +15,7 @@ pub fn every_run()
     ensures kept { EveryRunHolds }
 {}
 
-/// There are such runs: this one goes from every opening state of a table whose limits leave places for three writes
+/// There are such runs: this one goes from every opening state of a table whose limits leave places for four writes
 /// and let a head be written, and each kind of step is made in it.
 pub fn some_run()
     ensures kinds { HaveEachKind }

@@ -1,9 +1,9 @@
 //! The steps on the count of writes: the place is loaded, an operation is intended, and a write takes whatever place comes next.
-ghost use Rattle.std.specs.Prelude.{◌≡◌, ◌<◌, ◌++◌, ◌∷◌, [], List, length};
+ghost use Rattle.std.specs.Prelude.{◌≡◌, ◌<◌, ◌+◌, ◌++◌, ◌∷◌, [], List, length};
 ghost use Rattle.at_value.specs.declared.operation.Op as ops;
 ghost use Rattle.at_model.specs.History.{replay, IsProper};
 ghost use Rattle.at_view.specs.declared.mark.StepKind.TheVariants as kinds;
-ghost use Rattle.at_view.specs.Counts.{intent_words};
+ghost use Rattle.at_view.specs.Counts.{intent_words, passes};
 ghost use Rattle.at_core.specs.Opened.{opening_of};
 ghost use Rattle.at_core.specs.Passes.{view, IsOf, IsSame, HasSameHand};
 ghost use Rattle.at_core.specs.PlacePlays.{Saw, AreEarlier};
@@ -81,6 +81,7 @@ pub fn commit(world: &World, pass: &mut Pass) -> u64
     ensures same { IsSame pass.old pass.new × IsOf pass.new world.now × HasSameHand pass.old pass.new }
     ensures written { (operation : ops.Op) → Intends (view pass.old) operation → (at : List ops.Op) × (length at ≡ result)
         × (view pass.new ≡ written kinds.Commit (view pass.old) at operation) × Saw (opening_of world.now.limits) (view pass.old) at
+        × (result < (view pass.old).who.limits.place_max + passes)
         × IsProper (opening_of world.now.limits) (at ++ operation ∷ [])
         × IsSameAt (replay (opening_of world.now.limits) (view pass.old).history.seen) (replay (opening_of world.now.limits) at) operation }
 {
