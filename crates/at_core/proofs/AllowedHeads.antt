@@ -43,7 +43,6 @@ use Rattle.at_core.proofs.AllowedPlaces.{saw}
 -- what says what an object is says so of each world in which the object is the same
 object_then : (now then_was : World) (o word : ℕ) → slice_get now.objects o ≡ slice_get then_was.objects o → IsObjectOf now o word → IsObjectOf then_was o word
 object_then now then_was o word same is = record {
-  known = is.known;
   absent = λ e. ((is.absent e).0, sym same ∙ (is.absent e).1);
   present = λ e. sym same ∙ is.present e;
 }
@@ -94,6 +93,7 @@ module _ (opened : World) (limits : Limits) where
     saw_head live o = record {
       saw = saw opened limits s g h id v at live;
       keys = h.parts.headed.keys;
+      is = (h.parts.headed.heads_are o).is;
       object = λ whole. ((h.parts.headed.heads_are o).says whole).object;
       row = λ inlined. ((h.parts.headed.heads_are o).says inlined.0).row inlined.1;
       class = class_shown o;

@@ -159,6 +159,7 @@ module _ (opened : World) (limits : Limits) (words : Words) (homes : Homes) (vie
 
   heads_after : (k : ℕ) → HeadRule (replay opened g.history) k (row_locks_of words k) (heads_of words k) (keys_of after) (values_of words k)
   heads_after k = record {
+    is = (p.headed.heads_are k).is;
     says = λ whole.
         let s = (p.headed.heads_are k).says whole in
         record {

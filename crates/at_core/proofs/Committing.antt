@@ -281,11 +281,12 @@ module _ (opened : World) (limits : Limits) (words : Words) (homes : Homes) (vie
 
   heads_after : (o : ℕ) → HeadRule (replay opened more) o (row_locks_of words o) (heads_of words o) (keys_of words) (values_of words o)
   heads_after o = record {
+    is = (p.headed.heads_are o).is;
     says = λ whole.
         let s = (p.headed.heads_are o).says whole in
         let same = object_stays o (not_moved o whole) in
         record {
-          object = record { known = s.object.known; absent = λ e. ((s.object.absent e).0, same ∙ (s.object.absent e).1); present = λ e. same ∙ s.object.present e };
+          object = record { absent = λ e. ((s.object.absent e).0, same ∙ (s.object.absent e).1); present = λ e. same ∙ s.object.present e };
           blank = s.blank;
           row = s.row;
           values = λ e.

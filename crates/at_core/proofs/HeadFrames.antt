@@ -126,7 +126,7 @@ none_backed opened heads keys history looks none =
 -- A row whose head is open is still held, where the locks of rows that are free have heads that are whole
 pub heads_locked : (opened : World) (heads rows after : ℕ → ℕ) (keys values : ℕ → ℕ → ℕ) (history : List op.Op) (views : List View) → HeadParts opened heads rows keys values history views
     → ((o : ℕ) → IsOpened (heads o) → 0 < after o) → (o : ℕ) → HeadRule (replay opened history) o (after o) (heads o) keys (values o)
-heads_locked opened heads rows after keys values history views h owned o = record { says = (h.heads_are o).says; owned = owned o }
+heads_locked opened heads rows after keys values history views h owned o = record { is = (h.heads_are o).is; says = (h.heads_are o).says; owned = owned o }
 
 -- a view that changes says of an open head what it should
 pub open_changed : (opened : World) (heads : ℕ → ℕ) (history : List op.Op) (views : List View) (id : ℕ) (w : View) (o : ℕ) → OpenRule (replay opened history) o (heads o) (map (open_read o) views)

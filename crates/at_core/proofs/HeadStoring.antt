@@ -22,7 +22,7 @@ use Rattle.at_view.specs.declared.view.View.{View}
 use Rattle.at_view.specs.Words.{Words, is_there, is_same, number_of, updated, head, place, global_sequence}
 use Rattle.at_core.specs.declared.lock.Lock as lock
 use Rattle.at_core.specs.declared.lock.Lock.TheVariants as locks
-use Rattle.at_core.specs.Heads.{class_of, sequence_of, shape_of, HasDictionary, IsWhole, IsOpened, IsInline}
+use Rattle.at_core.specs.Heads.{class_of, sequence_of, shape_of, HasDictionary, IsHead, IsWhole, IsOpened, IsInline}
 use Rattle.at_core.specs.HeadSteps.{head_stored, known_keys, copied_values, NamesRow}
 use Rattle.at_core.specs.Inline.{IsHeadOf}
 use Rattle.at_core.specs.Locks.{lock_word, slot_of, hold_of, holds, copy_at}
@@ -37,10 +37,11 @@ use Rattle.at_core.proofs.HeadFrames.{odd_even}
 use Rattle.at_core.proofs.Parts.{left_alone, known_left}
 use Rattle.at_core.proofs.RowSteps.{head_of_row, lock_stands, row_mine, open_left, row_keeps}
 
--- What is asked of the new head, in terms of the table: its sequence is no less, and is above that of the old one where it is whole;
+-- What is asked of the new head, in terms of the table: it has a class and a layout; its sequence is no less, and is above that of the old one where it is whole;
 -- where it is whole it says what its object is, and where it is open it says the class unless the pass has the types too; the
 -- layout doesn't go back, and the row of a dictionary has one.
 pub record MayBe (opened : World) (words : Words) (g : Ghost) (v : View) (o n : ℕ) : Type 0 where
+  pub is : IsHead n
   pub risen : sequence_of (heads_of words o) ≤ sequence_of n
   pub above : IsWhole n → sequence_of (heads_of words o) < sequence_of n
   pub says : IsWhole n → IsHeadOf (replay opened g.history) o n (keys_of words) (values_of words o)
@@ -86,7 +87,7 @@ module _ (opened : World) (limits : Limits) (words : Words) (homes : Homes) (vie
   heads_after : (k : ℕ) → HeadRule (replay opened g.history) k (row_locks_of words k) (heads_of after k) (keys_of words) (values_of words k)
   heads_after k = dite (ℕ_discrete k o)
       (λ (e : k ≡ o). subst (λ (x : ℕ). HeadRule (replay opened g.history) x (row_locks_of words x) (heads_of after x) (keys_of words) (values_of words x)) (sym e)
-      (subst (λ (x : ℕ). HeadRule (replay opened g.history) o (row_locks_of words o) x (keys_of words) (values_of words o)) (sym here) (record { says = may.says; owned = λ _. owned })))
+      (subst (λ (x : ℕ). HeadRule (replay opened g.history) o (row_locks_of words o) x (keys_of words) (values_of words o)) (sym here) (record { is = may.is; says = may.says; owned = λ _. owned })))
       (λ (ne : k ≢ o). subst (λ (x : ℕ). HeadRule (replay opened g.history) k (row_locks_of words k) x (keys_of words) (values_of words k)) (sym (else_same k ne)) (p.headed.heads_are k))
 
   open_after : (k : ℕ) → OpenRule (replay opened g.history) k (heads_of after k) (map (open_read k) (set views id w))

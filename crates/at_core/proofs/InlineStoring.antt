@@ -66,7 +66,7 @@ module _ (opened : World) (limits : Limits) (words : Words) (homes : Homes) (vie
   heads_after : (k : ℕ) → HeadRule (replay opened g.history) k (row_locks_of words k) (heads_of words k) (keys_of words) (values_of after k)
   heads_after k = dite (ℕ_discrete k o)
       (λ (e : k ≡ o). subst (λ (x : ℕ). HeadRule (replay opened g.history) x (row_locks_of words x) (heads_of words x) (keys_of words) (values_of after x)) (sym e)
-      (record { says = λ whole. absurd (odd_even (heads_of words o) odd whole); owned = (p.headed.heads_are o).owned }))
+      (record { is = (p.headed.heads_are o).is; says = λ whole. absurd (odd_even (heads_of words o) odd whole); owned = (p.headed.heads_are o).owned }))
       (λ (ne : k ≢ o). subst (λ (f : ℕ → ℕ). HeadRule (replay opened g.history) k (row_locks_of words k) (heads_of words k) (keys_of words) f) (sym (else_same k ne)) (p.headed.heads_are k))
 
   cells_after : (k j : ℕ) → IsCell (values_of after k j)

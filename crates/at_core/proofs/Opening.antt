@@ -20,7 +20,7 @@ use Rattle.at_view.specs.Words.{Word, number_of, is_there, table_words, own_sequ
 use Rattle.at_core.specs.declared.lock.Lock as lock
 use Rattle.at_core.specs.declared.lock.Lock.TheVariants as locks
 use Rattle.at_core.specs.declared.stored.Stored.TheVariants as stored
-use Rattle.at_core.specs.Heads.{shape_of, HasDictionary}
+use Rattle.at_core.specs.Heads.{shape_of, HasDictionary, IsHead}
 use Rattle.at_core.specs.Inline.{IsHeadOf}
 use Rattle.at_core.specs.Locks.{lock_word, slot_of, holds}
 use Rattle.at_core.specs.Reads.{past_read, kin_read, holder_read, kept_read, types_read, row_read, known_read, looks_read, sequence_read, join_read, limit_read}
@@ -147,7 +147,6 @@ module _ (opened : World) (limits : Limits) (a : Core) (allowed : IsAllowed limi
   no_object : (k : ℕ) (keys_are : ℕ → ℕ → ℕ) (values : ℕ → ℕ) → ((i : ℕ) → values i ≡ 0) → IsHeadOf opened k 0 keys_are values
   no_object k keys_are values none = record {
     object = record {
-      known = omega arith;
       absent = λ _. (refl, ap (λ (objects : List Object). slice_get objects k) o.objectless ∙ nothing k);
       present = λ ne. absurd (ne (omega arith));
     };
@@ -222,6 +221,7 @@ module _ (opened : World) (limits : Limits) (a : Core) (allowed : IsAllowed limi
     };
     headed = record {
       heads_are = λ k. record {
+        is = subst IsHead (sym (head_at_first k)) (omega arith, omega arith);
         says = λ whole. subst (λ (n : ℕ). IsHeadOf opened k n (keys_of (words_of opening_words)) (values_of (words_of opening_words) k)) (sym (head_at_first k)) (no_object k (keys_of (words_of opening_words)) (values_of (words_of opening_words) k) (value_at_first k));
         owned = λ odd. let z = head_at_first k in absurd (odd_even (heads_of (words_of opening_words) k) odd (omega arith));
       };

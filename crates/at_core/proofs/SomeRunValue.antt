@@ -152,11 +152,12 @@ module _ (limits : Limits) (room : 4 ≤ limits.place_max) (heads : 0 < limits.h
       object = omega arith;
       asked = record {
         held = refl;
+        is = (omega arith, omega arith);
         whole = refl;
         next = ap (λ (n : ℕ). suc (sequence_of (suc n))) (sym s.unmade);
         made = λ e. absurd (omega arith);
         says = record {
-          object = record { known = omega arith; absent = λ e. absurd (omega arith); present = λ e. refl };
+          object = record { absent = λ e. absurd (omega arith); present = λ e. refl };
           blank = λ e. absurd (omega arith);
           row = λ e. refl;
           values = λ e. record { under = λ i n is. no_value i; named = λ n none. refl; past = λ i none. no_value i };

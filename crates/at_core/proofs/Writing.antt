@@ -25,7 +25,7 @@ use Rattle.at_view.specs.Counts.{keys, inline_values}
 use Rattle.at_view.specs.Words.{number_of, is_there, place, head, key, inline_value}
 use Rattle.at_core.specs.declared.lock.Lock as lock
 use Rattle.at_core.specs.declared.lock.Lock.TheVariants as locks
-use Rattle.at_core.specs.Heads.{class_of, sequence_of, shape_of, unmade, inline, HasDictionary, IsWhole, IsOpened}
+use Rattle.at_core.specs.Heads.{class_of, sequence_of, shape_of, unmade, inline, HasDictionary, IsHead, IsWhole, IsOpened}
 use Rattle.at_core.specs.HeadSteps.{MayOpen, head_opened, MayClose, head_closed, known_keys, copied_values, NamesRow}
 use Rattle.at_core.specs.Inline.{AreValuesOf, IsHeadOf}
 use Rattle.at_core.specs.Locks.{hold_of, holds, copy_at, IsUnchanged}
@@ -131,7 +131,9 @@ module _ (opened : World) (limits : Limits) (s : Board) (g : Ghost) (h : Holds o
         let copy : ℕ = copied_heads v o in
         let is : copied_heads v o ≡ heads_of (words_of s.words) o = head_of_row opened limits (words_of s.words) s.homes s.views g h.parts id v at live o may.held o may.held in
         let odd : IsOpened (suc copy) = (let even = may.whole in omega (arith, even)) in
+        let was = subst IsHead (sym is) (h.parts.headed.heads_are o).is in
         head_moves opened limits s g h id v at live hand kinds.HeadOpen o (suc copy) small may.held (record {
+          is = (let c = next_class copy may.whole in let l = was.0 in omega (arith, c, l), let c = next_layout copy may.whole in let l = was.1 in omega (arith, c, l));
           risen = let n = next_sequence copy may.whole in let e : sequence_of (heads_of (words_of s.words) o) ≡ sequence_of copy = ap sequence_of (sym is) in omega (arith, n, e);
           above = λ whole. absurd (odd_even (suc copy) odd whole);
           says = λ whole. absurd (odd_even (suc copy) odd whole);
@@ -155,6 +157,7 @@ module _ (opened : World) (limits : Limits) (s : Board) (g : Ghost) (h : Holds o
         let e : sequence_of (heads_of (words_of s.words) o) ≡ sequence_of (copied_heads v o) = ap sequence_of (sym is) in
         let n = may.next in
         head_moves opened limits s g h id v at live hand kinds.HeadClose o word small may.held (record {
+          is = may.is;
           risen = omega (arith, n, e);
           above = λ _. omega (arith, n, e);
           says = λ _. says_now;
@@ -177,7 +180,7 @@ module _ (opened : World) (limits : Limits) (s : Board) (g : Ghost) (h : Holds o
         says_now =
             let says = may.says in
             record {
-              object = record { known = says.object.known; absent = λ e. ((says.object.absent e).0, kept.0 ∙ (says.object.absent e).1); present = λ e. kept.0 ∙ says.object.present e };
+              object = record { absent = λ e. ((says.object.absent e).0, kept.0 ∙ (says.object.absent e).1); present = λ e. kept.0 ∙ says.object.present e };
               blank = λ e. absurd (may.made e);
               row = says.row;
               values = λ e.

@@ -13,7 +13,7 @@ use Rattle.at_view.specs.declared.view.View.{View}
 use Rattle.at_view.specs.Counts.{keys, inline_values}
 use Rattle.at_view.specs.Words.{number_of, head, key, inline_value}
 use Rattle.at_core.specs.declared.lock.Lock.TheVariants as locks
-use Rattle.at_core.specs.Heads.{class_of, shape_of, IsWhole, IsOpened, IsInline}
+use Rattle.at_core.specs.Heads.{class_of, shape_of, IsHead, IsWhole, IsOpened, IsInline}
 use Rattle.at_core.specs.HeadSteps.{head_loaded, inline_loaded, key_loaded, head_opened, head_closed, inline_stored, key_appended, copied_values, copied_keys_of}
 use Rattle.at_core.specs.Inline.{AreKeys, HaveGrown, NoneIs, IsCell, IsObjectOf}
 use Rattle.at_core.specs.Locks.{holds}
@@ -45,6 +45,7 @@ Shows opened o word keys_are seen look = look.object ≡ o → word ≡ look.wor
 pub record SawHead (opened : World) (v : View) (o word : ℕ) (at : List op.Op) (keys_are : ℕ → ℕ → ℕ) : Type 0 where
   pub saw : Saw opened v at
   pub keys : (c : ℕ) → AreKeys (keys_are c)
+  pub is : IsHead word
   pub object : IsWhole word → IsObjectOf (replay opened at) o word
   pub row : IsInline word → (shape_of word).row ≡ o
   pub class : IsOpened word → holds locks.Types v ≡ true → holds (locks.Row o) v ≡ false

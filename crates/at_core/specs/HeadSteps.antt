@@ -12,7 +12,7 @@ use Rattle.at_view.specs.declared.view.View.{View}
 use Rattle.at_view.specs.Counts.{keys, inline_values}
 use Rattle.at_view.specs.Words.{head, key, inline_value}
 use Rattle.at_core.specs.declared.lock.Lock.TheVariants as locks
-use Rattle.at_core.specs.Heads.{class_of, sequence_of, shape_of, unmade, HasDictionary, IsWhole, IsOpened}
+use Rattle.at_core.specs.Heads.{class_of, sequence_of, shape_of, unmade, HasDictionary, IsHead, IsWhole, IsOpened}
 use Rattle.at_core.specs.Inline.{NoneIs, IsCell, IsHeadOf}
 use Rattle.at_core.specs.Locks.{hold_of, holds, copy_at}
 use Rattle.at_core.specs.Looks.{keys_at}
@@ -74,6 +74,7 @@ NamesRow v r = (o : ℕ) × (holds (locks.Row o) v ≡ true) × HasDictionary (s
 -- to inline values, and the row of a dictionary is its own, or that of another object that is held.
 pub record MayClose (opened : World) (v : View) (o word : ℕ) : Type 0 where
   pub held : holds (locks.Row o) v ≡ true
+  pub is : IsHead word
   pub whole : IsWhole word
   pub next : sequence_of word ≡ suc (sequence_of (copied_heads v o))
   pub made : (shape_of word).layout ≢ unmade

@@ -1,7 +1,7 @@
 -- The head of an object. Its lowest bits are the sequence, odd while the object is being written; then come the class, the
 -- layout and the dictionary row.
-use Rattle.std.specs.Prelude.{ℕ, ◌≡◌, ◌+◌, ◌^◌, ◌/◌, ◌%◌}
-use Rattle.at_value.specs.Widths.{class_bits, object_bits}
+use Rattle.std.specs.Prelude.{ℕ, ◌≡◌, ◌<◌, ◌≤◌, ◌+◌, ◌^◌, ◌/◌, ◌%◌}
+use Rattle.at_value.specs.Widths.{classes, class_bits, object_bits}
 
 abbrev pub sequence_bits : ℕ
 sequence_bits = 40
@@ -33,6 +33,10 @@ shape_of word = record {
   layout = word / 2 ^ (sequence_bits + class_bits) % 2 ^ layout_bits;
   row = word / 2 ^ (sequence_bits + class_bits + layout_bits) % 2 ^ object_bits;
 }
+
+-- a head has the number of a class and one of the layouts, open or not
+abbrev pub IsHead : ℕ → Type 0
+IsHead word = (class_of word < classes) × ((shape_of word).layout ≤ dictionary)
 
 abbrev pub HasDictionary : Shape → Type 0
 HasDictionary shape = shape.layout ≡ dictionary

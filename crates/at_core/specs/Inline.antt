@@ -6,7 +6,7 @@ use Rattle.at_value.specs.Widths.{names}
 use Rattle.at_value.specs.Words.{HasWord}
 use Rattle.at_model.specs.World.{World, Map}
 use Rattle.at_view.specs.Counts as counts
-use Rattle.at_core.specs.Heads.{class_of, shape_of, unmade, inline, dictionary}
+use Rattle.at_core.specs.Heads.{class_of, shape_of, unmade, inline}
 
 -- Keys
 
@@ -51,7 +51,6 @@ pub record AreValuesOf (pairs : Map) (keys values : ℕ → ℕ) : Type 0 where
 
 -- The object has the class of the head and names the dictionary of its row; where the head is 0 there is no such object.
 pub record IsObjectOf (w : World) (o word : ℕ) : Type 0 where
-  pub known : (shape_of word).layout ≤ dictionary
   pub absent : (shape_of word).layout ≡ unmade → (word ≡ 0) × (slice_get w.objects o ≡ None)
   pub present : (shape_of word).layout ≢ unmade
       → slice_get w.objects o ≡ Some (record { class = class_of word; dict = (shape_of word).row })

@@ -32,7 +32,7 @@ use Rattle.at_core.specs.declared.lock.Lock as lock
 use Rattle.at_core.specs.declared.lock.Lock.TheVariants as locks
 use Rattle.at_core.specs.declared.stored.Stored.{Stored}
 use Rattle.at_core.specs.declared.stored.Stored.TheVariants as stored
-use Rattle.at_core.specs.Heads.{Shape, shape_of, class_of, HasDictionary, IsWhole, IsOpened}
+use Rattle.at_core.specs.Heads.{Shape, shape_of, class_of, HasDictionary, IsHead, IsWhole, IsOpened}
 use Rattle.at_core.specs.Inline.{AreKeys, HaveGrown, IsCell, IsHeadOf}
 use Rattle.at_core.specs.Looks.{keys_at, IsBacked}
 use Rattle.at_core.specs.Locks.{lock_word, slot_of, Protects, Excludes}
@@ -145,8 +145,9 @@ pub record SlotRule (limits : Limits) (w : World) (lists : TypeLists) (shape : S
 abbrev pub RowsAre : (ℕ → ℕ) → Type 0
 RowsAre heads = (o : ℕ) → HasDictionary (shape_of (heads o)) → HasDictionary (shape_of (heads (shape_of (heads o)).row))
 
--- A head that is whole says what its object is, with the keys of its class and its inline values; a row whose head is open is held.
+-- A head has a class and a layout. One that is whole says what its object is, with the keys of its class and its inline values; a row whose head is open is held.
 pub record HeadRule (w : World) (o row word : ℕ) (keys_are : ℕ → ℕ → ℕ) (values : ℕ → ℕ) : Type 0 where
+  pub is : IsHead word
   pub says : IsWhole word → IsHeadOf w o word keys_are values
   pub owned : IsOpened word → 0 < row
 

@@ -4,11 +4,13 @@ ghost use Rattle.at_view.specs.Views.{first_view};
 ghost use Rattle.at_core.specs.Locks.{HoldsNone};
 ghost use Rattle.at_core.specs.Passes.{view, hand, IsOf, IsSame};
 
+use crate::heads::{load_head, load_inline};
+use crate::keys::load_key;
 use crate::locking::{slot_in, slot_out, try_lock, unlock};
 use crate::places::{commit, load_place, store_intent};
 use crate::world::MOST_HELD;
 use crate::{Lock, OpenFault, Pass, Stored, World, laws};
-use at_value::{Limits, Obj};
+use at_value::{Class, Limits, Obj};
 
 #[test]
 fn laws_hold() {
@@ -128,5 +130,15 @@ fn a_class_takes_the_first_place(rt: HostRuntime) -> Result<(), OpenFault> {
     let (world, mut pass) = World::open(rt.alloc(), Limits::program())?;
     assert_eq!(rt; make_class(&world, &mut pass), Some(0));
     assert_eq!(rt; load_place(&world, &mut pass), 1);
+    Ok(())
+}
+
+#[test]
+fn words_of_what_is_not_made_are_0(rt: HostRuntime) -> Result<(), OpenFault> {
+    let (world, mut pass) = World::open(rt.alloc(), Limits::program())?;
+    let o = Obj::new(4_095).unwrap();
+    assert_eq!(rt; load_head(&world, &mut pass, o), 0);
+    assert_eq!(rt; load_inline(&world, &mut pass, o, 7), 0);
+    assert_eq!(rt; load_key(&world, &mut pass, Class::new(254).unwrap(), 7), 0);
     Ok(())
 }
