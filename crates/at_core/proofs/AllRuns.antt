@@ -20,7 +20,6 @@ use Rattle.at_core.specs.Runs.{Core, Event, lock_take, lock_miss, lock_give, slo
 use Rattle.at_core.proofs.Lists.{each_set}
 use Rattle.at_core.proofs.LockLemmas.{hold_taken, hold_beside, hold_given, hold_kept, holds_parted, holds_child, holds_merged, holds_blank, holds_missed, held_seen, held_stored, held_inline, held_appended}
 use Rattle.at_core.proofs.LivePasses.{number_small}
-use Rattle.at_core.proofs.AllowedPlaces.{loads_place}
 use Rattle.at_core.proofs.Committing.{held_written}
 use Rattle.at_core.proofs.Hands.{hands_changed, hands_exchanged, at_end, without_here, without_else}
 use Rattle.at_core.proofs.QuietSteps.{IsQuiet, holds_quiet, load_quiet, online_quiet, offline_quiet, intent_quiet, unwritten_quiet, head_quiet, inline_quiet, key_quiet, global_moves, online_moves, offline_moves, intent_moves, unwritten_moves}

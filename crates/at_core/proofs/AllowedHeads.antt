@@ -1,5 +1,5 @@
 -- What each load of a head, an inline value or a key owes, as in Allowed.
-use Rattle.std.proofs.Common.{◌≡◌, ◌≢◌, ℕ, ◌<◌, Bool, true, false, true≢false, IsTrue, List, [], map, get_or, refl, sym, ap, ◌∙◌, subst, arith}
+use Rattle.std.proofs.Common.{◌≡◌, ◌≢◌, ℕ, ◌<◌, Bool, true, false, true≢false, IsTrue, List, [], get_or, refl, sym, ap, ◌∙◌, subst, arith}
 use Rattle.std.specs.Prelude.{All, Some, slice_index, slice_get}
 use Rattle.std.proofs.lemmas.Bool.Decides.{nat_tests}
 use Rattle.std.proofs.lemmas.List.Elements.{All-weaker}
@@ -20,17 +20,15 @@ use Rattle.at_view.specs.declared.view.TypesWords.{TypesWords}
 use Rattle.at_view.specs.declared.view.View.{View}
 use Rattle.at_view.specs.Counts.{keys, inline_values}
 use Rattle.at_view.specs.Words.{is_there, number_of, head, key, inline_value}
-use Rattle.at_core.specs.declared.lock.Lock as lock
 use Rattle.at_core.specs.declared.lock.Lock.TheVariants as locks
 use Rattle.at_core.specs.Heads.{class_of, shape_of, inline, IsWhole, IsOpened}
-use Rattle.at_core.specs.HeadSteps.{head_loaded, inline_loaded, key_loaded, copied_values, copied_keys_of}
-use Rattle.at_core.specs.HeadPlays.{Says, Shows, SawHead, LoadsHead, SawCell, LoadsInline, SawKey, LoadsKey}
+use Rattle.at_core.specs.HeadSteps.{head_loaded, inline_loaded, key_loaded}
+use Rattle.at_core.specs.HeadPlays.{Shows, SawHead, LoadsHead, SawCell, LoadsInline, SawKey, LoadsKey}
 use Rattle.at_core.specs.Inline.{AreKeys, HaveGrown, IsObjectOf}
 use Rattle.at_core.specs.Locks.{lock_word, holds}
 use Rattle.at_core.specs.Looks.{keys_at, KeyStays, IsBacked}
-use Rattle.at_core.specs.Reads.{HolderRead, holder_read, types_read, row_read, OpenRead, open_read, known_read, looks_read}
-use Rattle.at_core.specs.Rule.{Slot, Board, Ghost, Holds, Base, copied_keys, words_of, heads_of, keys_of, values_of, row_words}
-use Rattle.at_core.specs.Steps.{copied_heads}
+use Rattle.at_core.specs.Reads.{HolderRead, holder_read, types_read, row_read, open_read, known_read, looks_read}
+use Rattle.at_core.specs.Rule.{Slot, Board, Ghost, Holds, Base, copied_keys, words_of, heads_of, keys_of, values_of}
 use Rattle.at_core.proofs.Lists.{map_back}
 use Rattle.at_core.proofs.Prefixes.{prefix_self}
 use Rattle.at_core.proofs.WordLemmas.{said}

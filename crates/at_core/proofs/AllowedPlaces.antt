@@ -1,6 +1,6 @@
 -- What each call on the count of writes owes, as in Allowed.
-use Rattle.std.proofs.Common.{◌≡◌, ◌≢◌, ℕ, suc, ◌+◌, ◌%◌, ◌^◌, ◌<◌, ◌≤◌, true, eqb, List, [], ◌∷◌, ◌++◌, length, map, get_or, refl, sym, ap, ◌∙◌, subst, arith}
-use Rattle.std.specs.Prelude.{All, IsTrue}
+use Rattle.std.proofs.Common.{◌≡◌, ℕ, suc, ◌+◌, ◌%◌, ◌^◌, ◌<◌, true, eqb, List, [], ◌∷◌, ◌++◌, length, map, get_or, refl, sym, ap, ◌∙◌, subst, arith}
+use Rattle.std.specs.Prelude.{IsTrue}
 use Rattle.std.proofs.lemmas.List.Elements.{All-weaker}
 use mathlib.Core.Option.{some, none}
 use mathlib.Core.List.{IsPrefix}
@@ -18,10 +18,9 @@ use Rattle.at_view.specs.declared.mark.StepKind.TheVariants as kinds
 use Rattle.at_view.specs.declared.view.View.{View}
 use Rattle.at_view.specs.Counts.{passes, intent_words}
 use Rattle.at_view.specs.Words.{number_of, place, intent}
-use Rattle.at_core.specs.declared.lock.Lock as lock
-use Rattle.at_core.specs.Locks.{hold_of, holds, AreKeptAt}
+use Rattle.at_core.specs.Locks.{hold_of}
 use Rattle.at_core.specs.Looks.{IsBacked}
-use Rattle.at_core.specs.PlaceSteps.{place_loaded, intent_stored, Intends, MayWrite, MayCommit, MayCommitIf, written, unwritten}
+use Rattle.at_core.specs.PlaceSteps.{place_loaded, intent_stored, Intends, MayCommit, MayCommitIf, written, unwritten}
 use Rattle.at_core.specs.PlacePlays.{Saw, AreEarlier, LoadsPlace, StoresIntent, Commits, CommitsIf}
 use Rattle.at_core.specs.Reads.{fresh_read, kept_read, looks_read, limit_read}
 use Rattle.at_core.specs.Rule.{Slot, Board, Ghost, Holds, Base, weight, words_of, heads_of, keys_of}
@@ -63,8 +62,7 @@ module _ (opened : World) (limits : Limits) where
   loads_place slots id me live s b deep at small =
       let v = me.0 in
       let g = b.ghost in
-      let word : words_of s.words place ≡ get_or s.words (number_of place) 0 = said s.words place refl in
-      (
+      let word : words_of s.words place ≡ get_or s.words (number_of place) 0 = said s.words place refl in (
         place_loaded v g.history,
         keeps,
         tt,
@@ -100,8 +98,7 @@ module _ (opened : World) (limits : Limits) where
       let room = b.holds.parts.room in
       let wide = b.holds.small in
       let next : suc (words_of s.words place) ≡ (n + 1) % 2 ^ 64 = omega (arith, has, one, room, wide, word) in
-      let same = same_now opened limits s g b.holds id v at live me.1 operation may in
-      (
+      let same = same_now opened limits s g b.holds id v at live me.1 operation may in (
         written kinds.Commit v g.history operation,
         keeps,
         tt,
@@ -111,8 +108,7 @@ module _ (opened : World) (limits : Limits) where
               (add_moves opened limits s g b.holds id v at live me.1 operation may);
         },
         λ _ other intends.
-            let is : operation ≡ other = intended v operation other may.write.intends intends in
-            (
+            let is : operation ≡ other = intended v operation other may.write.intends intends in (
               g.history,
               counted s g b.holds id v at live n refl,
               ap (λ (o : op.Op). (written kinds.Commit v g.history o, me.1)) is,
@@ -143,8 +139,7 @@ module _ (opened : World) (limits : Limits) where
       let room = b.holds.parts.room in
       let wide = b.holds.small in
       let next : suc (words_of s.words place) ≡ new = omega (arith, has, one, room, wide, here, new_is) in
-      let same : v.history.seen ≡ g.history = all_seen opened limits s g b.holds id v at live me.1 operation here in
-      (
+      let same : v.history.seen ≡ g.history = all_seen opened limits s g b.holds id v at live me.1 operation here in (
         written kinds.CommitIf v v.history.seen operation,
         keeps,
         tt,
@@ -154,13 +149,12 @@ module _ (opened : World) (limits : Limits) where
               (exchange_moves opened limits s g b.holds id v at live me.1 operation may here);
         },
         λ _ other intends.
-            let is : operation ≡ other = intended v operation other may.write.intends intends in
-            (
+            let is : operation ≡ other = intended v operation other may.write.intends intends in (
               λ _. (
                 ap (λ (o : op.Op). (written kinds.CommitIf v v.history.seen o, me.1)) is,
                 subst (Saw opened v) (sym same) (saw s g b.holds id v at live),
                 subst (λ (o : op.Op). IsProper opened (v.history.seen ++ o ∷ [])) is
-                (subst (λ (xs : List op.Op). IsProper opened (xs ++ operation ∷ [])) (sym same) (proper_snoc opened g.history operation b.holds.parts.history.proper (subst (λ (xs : List op.Op). IsTrue (is_write (replay opened xs) operation)) same may.write.write))),
+                    (subst (λ (xs : List op.Op). IsProper opened (xs ++ operation ∷ [])) (sym same) (proper_snoc opened g.history operation b.holds.parts.history.proper (subst (λ (xs : List op.Op). IsTrue (is_write (replay opened xs) operation)) same may.write.write))),
               ),
               λ busy. absurd (busy found),
             ),

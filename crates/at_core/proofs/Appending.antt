@@ -1,6 +1,6 @@
 -- A key is appended to a class by who holds the lock of the types.
-use Rattle.std.proofs.Common.{◌≡◌, ◌≢◌, ◌⊎◌, inl, inr, ℕ, suc, ◌<◌, ◌≤◌, ◌==◌, ◌&&◌, Bool, true, false, IsTrue, List, [], ◌∷◌, map, set, get_or, ne_eqb, refl, sym, ap, ◌∙◌, subst, arith, length-set}
-use Rattle.std.specs.Prelude.{All, slice_index}
+use Rattle.std.proofs.Common.{◌≡◌, ◌≢◌, ◌⊎◌, inl, inr, ℕ, suc, ◌<◌, ◌≤◌, ◌==◌, ◌&&◌, Bool, true, IsTrue, List, [], map, set, get_or, ne_eqb, refl, sym, ap, ◌∙◌, subst, arith, length-set}
+use Rattle.std.specs.Prelude.{slice_index}
 use Rattle.std.proofs.lemmas.Bool.{cases_lt}
 use Rattle.std.proofs.lemmas.Bool.Decides.{nat_tests}
 use Rattle.std.proofs.lemmas.List.Elements.{All-weaker}
@@ -10,26 +10,25 @@ use native.Mathlib.Decide.{ℕ_discrete}
 use lib.ListN.{get_elem?}
 use Rattle.atomic_table.specs.Table.{keeps, stepped}
 use Rattle.atomic_table.proofs.Lists.{at_map}
-use Rattle.at_value.specs.Widths.{classes, names}
+use Rattle.at_value.specs.Widths.{classes}
 use Rattle.at_value.specs.declared.limits.Limits.{Limits}
 use Rattle.at_model.specs.World.{World}
 use Rattle.at_model.specs.History.{replay}
 use Rattle.at_view.specs.declared.view.ClassKeys.{ClassKeys}
 use Rattle.at_view.specs.declared.view.HeadLook.{HeadLook}
-use Rattle.at_view.specs.declared.view.KeyCell.{KeyCell}
 use Rattle.at_view.specs.declared.view.TypesWords.{TypesWords}
 use Rattle.at_view.specs.declared.view.View.{View}
 use Rattle.at_view.specs.Counts.{keys}
 use Rattle.at_view.specs.Words.{Words, is_there, number_of, updated, place, key, global_sequence}
 use Rattle.at_core.specs.declared.lock.Lock as lock
 use Rattle.at_core.specs.declared.lock.Lock.TheVariants as locks
-use Rattle.at_core.specs.Heads.{class_of, IsInline}
+use Rattle.at_core.specs.Heads.{class_of}
 use Rattle.at_core.specs.HeadSteps.{copied_keys_of, MayAppend, key_appended}
-use Rattle.at_core.specs.Inline.{AreKeys, HaveGrown, IsHeadOf}
+use Rattle.at_core.specs.Inline.{AreKeys, HaveGrown}
 use Rattle.at_core.specs.Locks.{lock_word, slot_of, hold_of}
 use Rattle.at_core.specs.Looks.{keys_at, born_with, KeyStays, UnusedSays, IsBacked}
 use Rattle.at_core.specs.Reads.{past_read, fresh_read, kin_read, number_read, holder_read, kept_read, TypesRead, types_read, row_read, open_read, known_read, looks_read, join_read, limit_read}
-use Rattle.at_core.specs.Rule.{Slot, Board, Homes, Each, HistoryRule, RoomRule, KinRule, LockRule, NumberRule, SlotRule, KeptRule, TypesCopied, TypesRule, RowRule, JoinRule, LimitRule, OpenRule, HeadRule, KnownRule, LookRule, IsLock, Ghost, Parts, Holds, listed, copied_keys, words_of, heads_of, row_locks_of, keys_of, values_of, own_sequences_of, types_words, row_words, shape_under}
+use Rattle.at_core.specs.Rule.{Slot, Board, Homes, Each, HistoryRule, RoomRule, KinRule, LockRule, NumberRule, SlotRule, KeptRule, TypesRule, RowRule, JoinRule, LimitRule, OpenRule, HeadRule, KnownRule, LookRule, IsLock, Ghost, Parts, Holds, listed, copied_keys, words_of, heads_of, row_locks_of, keys_of, values_of, own_sequences_of, types_words, row_words, shape_under}
 use Rattle.at_core.proofs.Lists.{each_set, each_other, map_back, map_set}
 use Rattle.at_core.proofs.WordLemmas.{updated_here, updated_else, stored}
 use Rattle.at_core.proofs.HeadFrames.{listed_at, listed_set, listed_grown, grown_trans, grown_key, values_grow, known_more}

@@ -1,6 +1,6 @@
 -- A write takes the next place.
-use Rattle.std.proofs.Common.{◌≡◌, ◌≢◌, ◌⊎◌, inl, inr, ℕ, zero, suc, ◌+◌, ◌<◌, ◌≤◌, ◌==◌, ◌&&◌, Bool, true, false, true≢false, IsTrue, List, [], ◌∷◌, ◌++◌, length, map, set, refl, sym, ap, ◌∙◌, subst, ⊎_elim, arith, length-set, length-append}
-use Rattle.std.specs.Prelude.{Some, All, Contains, sum_by, count_by, nat_lt, slice_get, slice_index_or, if◌then◌else◌}
+use Rattle.std.proofs.Common.{◌≡◌, ◌≢◌, ◌⊎◌, inl, inr, ℕ, suc, ◌+◌, ◌<◌, ◌≤◌, ◌==◌, ◌&&◌, Bool, true, false, true≢false, IsTrue, List, [], ◌∷◌, ◌++◌, length, map, set, refl, sym, ap, ◌∙◌, subst, ⊎_elim, arith, length-set, length-append}
+use Rattle.std.specs.Prelude.{Contains, sum_by, nat_lt, slice_get, if◌then◌else◌}
 use Rattle.std.proofs.lemmas.Bool.{cases_lt}
 use Rattle.std.proofs.lemmas.Bool.Decides.{nat_tests}
 use Rattle.std.proofs.lemmas.List.Elements.{All-weaker, Contains-append_left, Contains-push}
@@ -29,17 +29,16 @@ use Rattle.at_core.specs.declared.lock.Lock as lock
 use Rattle.at_core.specs.declared.lock.Lock.TheVariants as locks
 use Rattle.at_core.specs.Heads.{class_of, IsWhole, IsOpened, IsInline}
 use Rattle.at_core.specs.Inline.{AreValuesOf}
-use Rattle.at_core.specs.Locks.{lock_word, slot_of, hold_at, hold_of, holds, IsUnchanged, AvoidsRow, Excludes}
-use Rattle.at_core.specs.Looks.{born_with, ObjectStays, BornStays, IsBacked}
+use Rattle.at_core.specs.Locks.{lock_word, slot_of, hold_at, hold_of, holds, IsUnchanged, Excludes}
+use Rattle.at_core.specs.Looks.{born_with, IsBacked}
 use Rattle.at_core.specs.PlaceSteps.{Covers, stamped, written}
-use Rattle.at_core.specs.Reads.{PastRead, past_read, fresh_read, kin_read, number_read, holder_read, KeptRead, kept_read, types_read, row_read, OpenRead, open_read, known_read, looks_read, join_read, limit_read}
-use Rattle.at_core.specs.Rule.{Slot, Board, Homes, Each, weight, HistoryRule, RoomRule, KinRule, LockRule, NumberRule, SlotRule, KeptBy, KeptRule, TypesRule, RowRule, JoinRule, LimitRule, OpenRule, HeadRule, LookRule, IsLock, Ghost, HeadParts, Parts, Holds, words_of, heads_of, row_locks_of, keys_of, values_of, own_sequences_of, types_words, row_words, shape_under}
+use Rattle.at_core.specs.Reads.{PastRead, past_read, fresh_read, kin_read, number_read, holder_read, KeptRead, kept_read, types_read, row_read, OpenRead, open_read, looks_read, join_read, limit_read}
+use Rattle.at_core.specs.Rule.{Slot, Board, Homes, Each, weight, HistoryRule, RoomRule, KinRule, LockRule, NumberRule, SlotRule, KeptBy, KeptRule, TypesRule, RowRule, JoinRule, LimitRule, OpenRule, HeadRule, LookRule, IsLock, Ghost, Parts, Holds, words_of, heads_of, row_locks_of, keys_of, values_of, own_sequences_of, types_words, row_words, shape_under}
 use Rattle.at_core.specs.Steps.{copied_heads}
 use Rattle.at_core.specs.Writes.{needs_types, moved_by}
 use Rattle.at_core.proofs.Lists.{each_set, each_other, sum_set, map_back, map_set}
 use Rattle.at_core.proofs.Counts.{times_cons, times_append, weight_same, weight_other}
 use Rattle.at_core.proofs.Prefixes.{prefix_self, prefix_trans, prefix_length, prefix_shorter, prefix_whole}
-use Rattle.at_core.proofs.LockLemmas.{unchanged_self}
 use Rattle.at_core.proofs.Taking.{protects_all}
 use Rattle.at_core.proofs.Giving.{agrees_later}
 use Rattle.at_core.proofs.WordLemmas.{stored}

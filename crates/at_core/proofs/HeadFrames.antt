@@ -1,13 +1,10 @@
 -- What steps on locks, splits and joins leave of the part on heads, keys and inline values.
-use Rattle.std.proofs.Common.{◌≡◌, ◌≢◌, ℕ, zero, suc, ◌<◌, ◌≤◌, Bool, true, false, true≢false, List, [], ◌∷◌, map, set, get_or, eq-eqb, ne_eqb, ◌⊎◌, inl, inr, refl, sym, ap, ◌∙◌, subst, arith}
+use Rattle.std.proofs.Common.{◌≡◌, ◌≢◌, ℕ, zero, suc, ◌<◌, ◌≤◌, Bool, true, false, List, [], ◌∷◌, map, set, get_or, eq-eqb, ne_eqb, ◌⊎◌, inl, inr, refl, sym, ap, ◌∙◌, subst, arith}
 use Rattle.std.specs.Prelude.{Option, None, All, slice_index, if◌then◌else◌}
 use Rattle.std.proofs.lemmas.Bool.{cases_lt}
 use Rattle.std.proofs.lemmas.List.Elements.{All-nil}
-use mathlib.Core.Option.{some}
 use mathlib.Core.Logic.{dite}
 use native.Mathlib.Decide.{ℕ_discrete}
-use lib.ListN.{get_elem?}
-use Rattle.atomic_table.proofs.Lists.{at_map}
 use Rattle.at_value.specs.declared.operation.Op as op
 use Rattle.at_value.specs.declared.value.Value as value
 use Rattle.at_value.specs.Pairs.{value_at}
@@ -16,14 +13,11 @@ use Rattle.at_model.specs.History.{replay}
 use Rattle.at_view.specs.declared.view.ClassKeys.{ClassKeys}
 use Rattle.at_view.specs.declared.view.HeadLook.{HeadLook}
 use Rattle.at_view.specs.declared.view.View.{View}
-use Rattle.at_core.specs.declared.lock.Lock as lock
-use Rattle.at_core.specs.declared.lock.Lock.TheVariants as locks
 use Rattle.at_core.specs.Heads.{IsWhole, IsOpened}
 use Rattle.at_core.specs.Inline.{AreKeys, HaveGrown, IsWordOf, AreValuesOf}
-use Rattle.at_core.specs.Locks.{holds}
 use Rattle.at_core.specs.Looks.{keys_at, IsBacked}
-use Rattle.at_core.specs.Reads.{OpenRead, open_read, known_read, looks_read}
-use Rattle.at_core.specs.Rule.{Each, OpenRule, KnownRule, LookRule, HeadRule, HeadParts, listed}
+use Rattle.at_core.specs.Reads.{open_read}
+use Rattle.at_core.specs.Rule.{OpenRule, HeadRule, HeadParts, listed}
 use Rattle.at_core.proofs.Lists.{each_set}
 use Rattle.at_core.proofs.Parts.{changed}
 
@@ -87,8 +81,8 @@ values_grow pairs keys more values are grown a = record {
   under = λ i n e. dite (ℕ_discrete (keys i) 0)
       (λ (z : keys i ≡ 0).
       let none : value_at n pairs ≡ None = a.named n (λ j used.
-          let same : j ≡ i = are.distinct j i n (grown_key keys more j n grown used) e in
-          not_zero (keys j) n used (ap keys same ∙ z)) in
+      let same : j ≡ i = are.distinct j i n (grown_key keys more j n grown used) e in
+      not_zero (keys j) n used (ap keys same ∙ z)) in
       subst (λ (found : Option value.Value). IsWordOf found (values i)) (sym none) (a.past i z))
       (λ (ne : keys i ≢ 0). a.under i n (sym (grown i ne) ∙ e));
   named = λ n none. a.named n (λ i e. none i (grown_key keys more i n grown e));

@@ -1,6 +1,6 @@
 -- The head of an object is stored by who holds its row: it is opened, or closed.
-use Rattle.std.proofs.Common.{◌≡◌, ◌≢◌, ◌⊎◌, inl, inr, ℕ, suc, ◌+◌, ◌<◌, ◌≤◌, ◌==◌, Bool, true, false, true≢false, IsTrue, List, [], ◌∷◌, map, set, get_or, ne_eqb, eq-eqb, refl, sym, ap, ◌∙◌, subst, ⊎_elim, arith, length-set}
-use Rattle.std.specs.Prelude.{Some, None, All, slice_index, slice_index_or, slice_get, if◌then◌else◌}
+use Rattle.std.proofs.Common.{◌≡◌, ◌≢◌, ◌⊎◌, inl, inr, ℕ, ◌<◌, ◌≤◌, true, false, IsTrue, List, map, set, ne_eqb, refl, sym, ap, ◌∙◌, subst, arith, length-set}
+use Rattle.std.specs.Prelude.{Some, None, slice_get}
 use Rattle.std.proofs.lemmas.Bool.Decides.{nat_tests}
 use Rattle.std.proofs.lemmas.List.Elements.{All-weaker}
 use mathlib.Core.Option.{some}
@@ -16,24 +16,21 @@ use Rattle.at_model.specs.World.{World}
 use Rattle.at_model.specs.History.{replay}
 use Rattle.at_view.specs.declared.mark.StepKind as step_kind
 use Rattle.at_view.specs.declared.view.HeadLook.{HeadLook}
-use Rattle.at_view.specs.declared.view.RowCopy.{RowCopy}
 use Rattle.at_view.specs.declared.view.RowWords.{RowWords}
 use Rattle.at_view.specs.declared.view.View.{View}
-use Rattle.at_view.specs.Words.{Words, is_there, is_same, number_of, updated, head, place, global_sequence}
+use Rattle.at_view.specs.Words.{Words, is_there, number_of, updated, head}
 use Rattle.at_core.specs.declared.lock.Lock as lock
 use Rattle.at_core.specs.declared.lock.Lock.TheVariants as locks
-use Rattle.at_core.specs.Heads.{class_of, sequence_of, shape_of, HasDictionary, IsHead, IsWhole, IsOpened, IsInline}
-use Rattle.at_core.specs.HeadSteps.{head_stored, known_keys, copied_values, NamesRow}
+use Rattle.at_core.specs.Heads.{class_of, sequence_of, shape_of, HasDictionary, IsHead, IsWhole, IsOpened}
+use Rattle.at_core.specs.HeadSteps.{head_stored, NamesRow}
 use Rattle.at_core.specs.Inline.{IsHeadOf}
-use Rattle.at_core.specs.Locks.{lock_word, slot_of, hold_of, holds, copy_at}
+use Rattle.at_core.specs.Locks.{lock_word, slot_of, holds, copy_at}
 use Rattle.at_core.specs.Looks.{IsBacked}
-use Rattle.at_core.specs.Reads.{past_read, fresh_read, kin_read, number_read, holder_read, kept_read, types_read, RowRead, row_read, OpenRead, open_read, looks_read, join_read, limit_read}
-use Rattle.at_core.specs.Rule.{Slot, Board, Homes, Each, HistoryRule, RoomRule, KinRule, LockRule, NumberRule, SlotRule, KeptRule, TypesRule, RowRule, JoinRule, LimitRule, OpenRule, HeadRule, LookRule, RowsAre, IsLock, Ghost, HeadParts, Parts, Holds, words_of, heads_of, row_locks_of, keys_of, values_of, own_sequences_of, types_words, row_words, shape_under}
+use Rattle.at_core.specs.Reads.{row_read, OpenRead, open_read, looks_read}
+use Rattle.at_core.specs.Rule.{Slot, Board, Homes, Each, SlotRule, OpenRule, HeadRule, LookRule, RowsAre, IsLock, Ghost, Parts, Holds, words_of, heads_of, row_locks_of, keys_of, values_of, row_words, shape_under}
 use Rattle.at_core.specs.Steps.{mark, copied_heads}
-use Rattle.at_core.proofs.Lists.{each_set, each_other, map_back, map_set}
-use Rattle.at_core.proofs.LockLemmas.{copy_here, copy_else}
+use Rattle.at_core.proofs.Lists.{each_other, map_back, map_set}
 use Rattle.at_core.proofs.WordLemmas.{updated_here, updated_else, stored}
-use Rattle.at_core.proofs.HeadFrames.{odd_even}
 use Rattle.at_core.proofs.Parts.{left_alone, known_left}
 use Rattle.at_core.proofs.RowSteps.{head_of_row, lock_stands, row_mine, open_left, row_keeps}
 
@@ -136,10 +133,10 @@ module _ (opened : World) (limits : Limits) (words : Words) (homes : Homes) (vie
       let was : sequence_of look.word ≤ sequence_of (heads_of words o) = subst (λ (x : ℕ). sequence_of look.word ≤ sequence_of (heads_of words x)) e b.risen in
       let up = may.risen in
       let gone : heads_of after look.object ≡ look.word → IsWhole look.word → ⊥ = λ same whole.
-          let one : n ≡ look.word = sym is ∙ same in
-          let lt = may.above (subst IsWhole (sym one) whole) in
-          let eq : sequence_of n ≡ sequence_of look.word = ap sequence_of one in
-          omega (arith, was, lt, eq) in
+      let one : n ≡ look.word = sym is ∙ same in
+      let lt = may.above (subst IsWhole (sym one) whole) in
+      let eq : sequence_of n ≡ sequence_of look.word = ap sequence_of one in
+      omega (arith, was, lt, eq) in
       record {
         begins = b.begins;
         risen = subst (λ (x : ℕ). sequence_of look.word ≤ sequence_of x) (sym is) (omega (arith, was, up));

@@ -1,5 +1,5 @@
 -- An inline value is stored by who has the head of its object open.
-use Rattle.std.proofs.Common.{◌≡◌, ◌≢◌, ℕ, ◌<◌, ◌==◌, ◌&&◌, Bool, true, false, IsTrue, List, [], ◌∷◌, map, set, ne_eqb, refl, sym, ap, ◌∙◌, subst, arith, length-set}
+use Rattle.std.proofs.Common.{◌≡◌, ◌≢◌, ℕ, ◌<◌, ◌==◌, ◌&&◌, Bool, true, false, IsTrue, List, set, ne_eqb, refl, sym, ap, ◌∙◌, subst, arith, length-set}
 use Rattle.std.specs.Prelude.{Some, None}
 use Rattle.std.proofs.lemmas.Bool.Decides.{nat_tests}
 use mathlib.Core.Option.{some}
@@ -16,10 +16,10 @@ use Rattle.at_view.specs.declared.mark.StepKind.TheVariants as kinds
 use Rattle.at_view.specs.declared.view.RowWords.{RowWords}
 use Rattle.at_view.specs.declared.view.View.{View}
 use Rattle.at_view.specs.Counts.{inline_values}
-use Rattle.at_view.specs.Words.{Words, is_there, is_same, number_of, updated, inline_value}
+use Rattle.at_view.specs.Words.{Words, is_there, number_of, updated, inline_value}
 use Rattle.at_core.specs.declared.lock.Lock as lock
 use Rattle.at_core.specs.declared.lock.Lock.TheVariants as locks
-use Rattle.at_core.specs.Heads.{IsWhole, IsOpened}
+use Rattle.at_core.specs.Heads.{IsOpened}
 use Rattle.at_core.specs.HeadSteps.{MayStore, inline_stored}
 use Rattle.at_core.specs.Inline.{IsCell}
 use Rattle.at_core.specs.Locks.{lock_word, slot_of, copy_at}

@@ -1,11 +1,10 @@
 -- Heads, inline values and keys are loaded: what is kept of a load says what it should.
-use Rattle.std.proofs.Common.{◌≡◌, ◌≢◌, ◌⊎◌, inl, inr, ℕ, suc, ◌<◌, ◌≤◌, true, IsTrue, List, [], ◌∷◌, map, set, refl, sym, ap, ◌∙◌, subst, arith}
+use Rattle.std.proofs.Common.{◌≡◌, ◌≢◌, ◌⊎◌, inl, inr, ℕ, suc, ◌<◌, ◌≤◌, true, IsTrue, List, [], map, set, refl, sym, ap, ◌∙◌, subst, arith}
 use Rattle.std.specs.Prelude.{All, slice_index, slice_get}
 use Rattle.std.proofs.lemmas.Bool.{cases_lt}
 use Rattle.std.proofs.lemmas.Bool.Decides.{nat_tests}
 use Rattle.std.proofs.lemmas.List.Elements.{All-cons, All-nil, All-map, All-weaker}
 use mathlib.Core.Option.{some}
-use mathlib.Core.List.{IsPrefix}
 use lib.ListN.{get_elem?}
 use Rattle.atomic_table.specs.Table.{keeps, stepped}
 use Rattle.atomic_table.proofs.Lists.{at_map}
@@ -23,14 +22,14 @@ use Rattle.at_view.specs.Words.{is_there, number_of, head, key, inline_value}
 use Rattle.at_core.specs.Heads.{class_of, IsWhole, IsInline}
 use Rattle.at_core.specs.HeadSteps.{head_loaded, with_cell, inline_loaded, with_key, key_loaded}
 use Rattle.at_core.specs.Inline.{AreValuesOf, HaveGrown, IsHeadOf, IsWordUnder}
-use Rattle.at_core.specs.Looks.{keys_at, born_with, BornStays, CellSays, KeyStays, UnusedSays, IsBacked}
+use Rattle.at_core.specs.Looks.{keys_at, born_with, CellSays, KeyStays, UnusedSays, IsBacked}
 use Rattle.at_core.specs.Reads.{known_read, looks_read}
-use Rattle.at_core.specs.Rule.{Slot, Board, Ghost, Holds, HeadParts, KnownRule, LookRule, listed, copied_keys, words_of, heads_of, row_locks_of, keys_of, values_of}
+use Rattle.at_core.specs.Rule.{Slot, Board, Ghost, Holds, HeadParts, KnownRule, LookRule, copied_keys, words_of, heads_of, keys_of}
 use Rattle.at_core.proofs.Lists.{each_set}
 use Rattle.at_core.proofs.Prefixes.{prefix_self, prefix_whole, prefix_length}
 use Rattle.at_core.proofs.HeadFrames.{listed_grown, known_more}
 use Rattle.at_core.proofs.Parts.{changed}
-use Rattle.at_core.proofs.QuietSteps.{head_quiet, inline_quiet, key_quiet, load_moves, known_same, looks_same, sequence_same}
+use Rattle.at_core.proofs.QuietSteps.{head_quiet, inline_quiet, key_quiet, load_moves, known_same, sequence_same}
 
 -- The parts say of one look what it has
 
@@ -52,7 +51,7 @@ module _ {opened : World} {heads rows : ℕ → ℕ} {keys_are values_are : ℕ 
       → AreValuesOf (born_with opened look.at look.object) (keys_are (class_of look.word)) (values_are look.object)
   values_then look b e inlined =
       let says : IsHeadOf (replay opened history) look.object look.word keys_are (values_are look.object) =
-          subst (λ (n : ℕ). IsHeadOf (replay opened history) look.object n keys_are (values_are look.object)) e ((h.heads_are look.object).says (subst IsWhole (sym e) inlined.0)) in
+      subst (λ (n : ℕ). IsHeadOf (replay opened history) look.object n keys_are (values_are look.object)) e ((h.heads_are look.object).says (subst IsWhole (sym e) inlined.0)) in
       subst (λ pairs. AreValuesOf pairs (keys_are (class_of look.word)) (values_are look.object)) (b.born e inlined history b.begins (prefix_self history)) (says.values inlined.1)
 
   -- an inline value joins a look

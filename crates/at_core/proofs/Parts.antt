@@ -16,7 +16,7 @@ use Rattle.at_view.specs.declared.view.RowWords.{RowWords}
 use Rattle.at_view.specs.Words.{Words, place, global_sequence}
 use Rattle.at_core.specs.declared.lock.Lock as lock
 use Rattle.at_core.specs.declared.lock.Lock.TheVariants as locks
-use Rattle.at_core.specs.Reads.{PastRead, past_read, fresh_read, kin_read, number_read, HolderRead, holder_read, kept_read, types_read, row_read, OpenRead, open_read, known_read, looks_read, sequence_read, join_read, limit_read}
+use Rattle.at_core.specs.Reads.{PastRead, past_read, fresh_read, kin_read, number_read, HolderRead, holder_read, kept_read, types_read, row_read, open_read, known_read, looks_read, sequence_read, join_read, limit_read}
 use Rattle.at_core.specs.Locks.{lock_word, slot_of}
 use Rattle.at_core.specs.Rule.{Homes, Each, HistoryRule, RoomRule, KinRule, LockRule, NumberRule, KeptRule, TypesRule, RowRule, JoinRule, LimitRule, SlotRule, OpenRule, KnownRule, LookRule, SequenceRule, Ghost, HeadParts, Parts, heads_of, row_locks_of, keys_of, values_of, own_sequences_of, types_words, row_words, shape_under}
 use Rattle.at_core.proofs.Lists.{each_set, each_other, there, sum_set, map_set, map_same}

@@ -1,9 +1,8 @@
 -- The place is loaded.
-use Rattle.std.proofs.Common.{◌≡◌, ℕ, suc, ◌+◌, ◌<◌, ◌≤◌, ◌||◌, Bool, true, false, List, [], ◌∷◌, length, map, set, refl, sym, ap, ◌∙◌, subst, arith, length-set}
+use Rattle.std.proofs.Common.{◌≡◌, ℕ, suc, ◌<◌, ◌≤◌, ◌||◌, Bool, true, false, List, [], ◌∷◌, length, map, set, refl, sym, ap, ◌∙◌, subst, arith, length-set}
 use Rattle.std.specs.Prelude.{count_by, nat_lt}
 use Rattle.std.proofs.lemmas.List.Sums.{sum_by-cons}
 use mathlib.Core.Option.{some}
-use mathlib.Core.List.{IsPrefix}
 use lib.ListN.{get_elem?}
 use Rattle.atomic_table.specs.Table.{keeps, stepped}
 use Rattle.atomic_table.proofs.Lists.{at_map}
@@ -11,15 +10,14 @@ use Rattle.at_value.specs.declared.limits.Limits.{Limits}
 use Rattle.at_model.specs.World.{World}
 use Rattle.at_model.specs.History.{replay}
 use Rattle.at_view.specs.declared.view.View.{View}
-use Rattle.at_view.specs.Counts.{passes}
 use Rattle.at_view.specs.Views.{blank}
 use Rattle.at_view.specs.Words.{Words, number_of, place, global_sequence}
 use Rattle.at_core.specs.declared.lock.Lock as lock
 use Rattle.at_core.specs.declared.lock.Lock.TheVariants as locks
 use Rattle.at_core.specs.Locks.{lock_word, hold_of}
 use Rattle.at_core.specs.PlaceSteps.{place_loaded}
-use Rattle.at_core.specs.Reads.{past_read, fresh_read, kin_read, NumberRead, number_read, holder_read, kept_read, types_read, row_read, join_read, limit_read, open_read, known_read, looks_read}
-use Rattle.at_core.specs.Rule.{Slot, Board, Homes, Each, weight, HistoryRule, RoomRule, KinRule, LockRule, NumberRule, KeptBy, KeptRule, TypesRule, RowRule, JoinRule, LimitRule, OpenRule, Ghost, HeadParts, Parts, Holds, words_of, heads_of, row_locks_of, keys_of, values_of, own_sequences_of, types_words, row_words}
+use Rattle.at_core.specs.Reads.{past_read, fresh_read, kin_read, NumberRead, number_read, holder_read, kept_read, types_read, row_read, join_read, limit_read, open_read}
+use Rattle.at_core.specs.Rule.{Slot, Board, Homes, Each, weight, HistoryRule, RoomRule, KinRule, LockRule, NumberRule, KeptBy, KeptRule, TypesRule, RowRule, JoinRule, LimitRule, OpenRule, Ghost, Parts, Holds, words_of, heads_of, keys_of, own_sequences_of, types_words, row_words}
 use Rattle.at_core.proofs.Lists.{each_set, map_same}
 use Rattle.at_core.proofs.Counts.{at_most_one}
 use Rattle.at_core.proofs.Prefixes.{prefix_self, prefix_trans, prefix_length}

@@ -15,7 +15,7 @@ use Rattle.at_view.specs.Counts.{passes, intent_words}
 use Rattle.at_view.specs.Words.{Word, Words, is_there, number_of, place, intent, global_sequence, own_sequence, updated}
 use Rattle.at_core.specs.declared.lock.Lock as lock
 use Rattle.at_core.specs.declared.lock.Lock.TheVariants as locks
-use Rattle.at_core.specs.Locks.{lock_word, slot_of, hold_at, holds, copy_at}
+use Rattle.at_core.specs.Locks.{lock_word, hold_at, holds, copy_at}
 use Rattle.at_core.specs.Looks.{IsBacked}
 use Rattle.at_core.specs.Reads.{holder_read, kept_read, births_of, known_read, looks_read, SequenceRead, sequence_read}
 use Rattle.at_core.specs.Rule.{Slot, Board, Ghost, Parts, Holds, KnownRule, LookRule, SequenceRule, heads_of, keys_of, own_sequences_of, words_of}

@@ -1,6 +1,6 @@
 -- Both commits, and the two stores of a head, from what they ask.
-use Rattle.std.proofs.Common.{◌≡◌, ◌≢◌, ◌⊎◌, inl, inr, ℕ, suc, ◌+◌, ◌/◌, ◌%◌, ◌<◌, ◌≤◌, ◌&&◌, Bool, true, false, true≢false, IsTrue, List, [], ◌∷◌, ◌++◌, length, map, refl, sym, ap, ◌∙◌, subst, arith}
-use Rattle.std.specs.Prelude.{Some, None, Contains, nat_lt, slice_index, slice_index_or, slice_get, if◌then◌else◌}
+use Rattle.std.proofs.Common.{◌≡◌, ◌≢◌, inr, ℕ, suc, ◌<◌, ◌≤◌, ◌&&◌, Bool, true, false, true≢false, IsTrue, List, [], ◌∷◌, ◌++◌, length, refl, sym, ap, ◌∙◌, subst, arith}
+use Rattle.std.specs.Prelude.{Some, Contains, nat_lt, slice_index, slice_index_or, slice_get, if◌then◌else◌}
 use Rattle.std.proofs.lemmas.Bool.Decides.{nat_tests}
 use Rattle.std.proofs.lemmas.Option.{none-some, same_Some}
 use mathlib.Core.Option.{some}
@@ -17,7 +17,6 @@ use Rattle.at_model.specs.declared.rows.Object.{Object}
 use Rattle.at_model.specs.World.{World, Map}
 use Rattle.at_model.specs.History.{replay}
 use Rattle.at_model.specs.Step.{is_write}
-use Rattle.at_line.specs.Kept.{rows_of}
 use Rattle.at_view.specs.declared.mark.StepKind.TheVariants as kinds
 use Rattle.at_view.specs.declared.view.RowWords.{RowWords}
 use Rattle.at_view.specs.declared.view.View.{View}
@@ -25,21 +24,21 @@ use Rattle.at_view.specs.Counts.{keys, inline_values}
 use Rattle.at_view.specs.Words.{number_of, is_there, place, head, key, inline_value}
 use Rattle.at_core.specs.declared.lock.Lock as lock
 use Rattle.at_core.specs.declared.lock.Lock.TheVariants as locks
-use Rattle.at_core.specs.Heads.{class_of, sequence_of, shape_of, unmade, inline, HasDictionary, IsHead, IsWhole, IsOpened}
-use Rattle.at_core.specs.HeadSteps.{MayOpen, head_opened, MayClose, head_closed, known_keys, copied_values, NamesRow}
+use Rattle.at_core.specs.Heads.{class_of, sequence_of, shape_of, unmade, IsHead, IsWhole, IsOpened}
+use Rattle.at_core.specs.HeadSteps.{MayOpen, head_opened, MayClose, head_closed, known_keys, copied_values}
 use Rattle.at_core.specs.Inline.{AreValuesOf, IsHeadOf}
 use Rattle.at_core.specs.Locks.{hold_of, holds, copy_at, IsUnchanged}
 use Rattle.at_core.specs.PlaceSteps.{Covers, MayCommit, MayCommitIf, written}
 use Rattle.at_core.specs.Reads.{kept_read, row_read, known_read}
 use Rattle.at_core.specs.Rule.{Slot, Board, Ghost, Holds, words_of, heads_of, keys_of, values_of, row_words}
 use Rattle.at_core.specs.Steps.{copied_heads}
-use Rattle.at_core.specs.Writes.{needs_types, moved_by, IsSameAt}
+use Rattle.at_core.specs.Writes.{IsSameAt}
 use Rattle.at_core.proofs.Prefixes.{prefix_self, prefix_trans, prefix_whole}
 use Rattle.at_core.proofs.Written.{get_or-same}
 use Rattle.at_core.proofs.HeldStays.{held_writes_stay}
 use Rattle.at_core.proofs.HeadFrames.{odd_even, listed_all, values_grow}
 use Rattle.at_core.proofs.InlineStoring.{and_false}
-use Rattle.at_core.proofs.HeadStoring.{MayBe, head_moves}
+use Rattle.at_core.proofs.HeadStoring.{head_moves}
 use Rattle.at_core.proofs.RowSteps.{head_of_row}
 use Rattle.at_core.proofs.Committing.{commit_moves}
 use Rattle.at_core.proofs.Parts.{seen_begins}

@@ -1,4 +1,4 @@
-use Rattle.std.proofs.Common.{◌≡◌, ◌<◌, ℕ, sym, subst, refl}
+use Rattle.std.proofs.Common.{◌<◌, ℕ, sym, subst, refl}
 use Rattle.at_model.specs.World.{opening}
 use Rattle.at_view.specs.declared.mark.StepKind.TheVariants as kinds
 use Rattle.at_view.specs.Words.{number_of, place}

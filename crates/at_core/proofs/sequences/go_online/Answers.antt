@@ -1,16 +1,10 @@
-use Rattle.std.proofs.Common.{◌≡◌, ℕ, suc, ◌<◌, ◌≤◌, true, false, refl, map, sym, ap, subst, ◌∙◌, IsTrue, arith}
-use Rattle.std.specs.Prelude.{is_some}
+use Rattle.std.proofs.Common.{◌≡◌, ℕ, ◌<◌, true, refl, sym, ap, subst, ◌∙◌, IsTrue, arith}
 use Rattle.std.proofs.lemmas.Bool.Decides.{nat_tests}
 use mathlib.Core.Option.{none}
 use Rattle.atomic_table.specs.Table.{Allows, step}
-use Rattle.at_value.specs.Widths.{objects}
 use Rattle.at_model.specs.World.{opening}
-use Rattle.at_types.specs.Tags.{times}
-use Rattle.at_view.specs.Counts.{passes}
 use Rattle.at_view.specs.Words.{number_of, own_sequence, is_there}
 use Rattle.at_view.proofs.WordLaws.{inside}
-use Rattle.at_core.specs.Locks.{slot_of, holds}
-use Rattle.at_core.specs.Reads.{in_hand, slot_number}
 use Rattle.at_core.specs.Rule.{Base}
 use Rattle.at_core.specs.Plays.{GoesOnline}
 use Rattle.at_core.specs.Steps.{gone_online}

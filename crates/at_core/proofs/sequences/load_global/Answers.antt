@@ -1,12 +1,7 @@
-use Rattle.std.proofs.Common.{◌≡◌, ℕ, suc, ◌<◌, ◌≤◌, true, false, refl, map, sym, ap, subst, ◌∙◌}
-use Rattle.std.specs.Prelude.{is_some}
-use Rattle.at_value.specs.Widths.{objects}
+use Rattle.std.proofs.Common.{ℕ, ◌<◌, refl, sym, subst}
 use Rattle.at_model.specs.World.{opening}
-use Rattle.at_types.specs.Tags.{times}
 use Rattle.at_view.specs.Words.{number_of, global_sequence}
 use Rattle.at_view.proofs.WordLaws.{inside}
-use Rattle.at_core.specs.Locks.{slot_of, holds}
-use Rattle.at_core.specs.Reads.{in_hand, slot_number}
 use Rattle.at_core.specs.Steps.{global_loaded}
 use Rattle.at_core.proofs.Allowed.{loads_global}
 use Rattle.at_core.proofs.QuietSteps.{load_quiet, holds_quiet}
