@@ -1,6 +1,6 @@
 -- A lock is given back.
-use Rattle.std.proofs.Common.{◌≡◌, ◌≢◌, ℕ, zero, suc, ◌<◌, true, false, true≢false, List, [], ◌∷◌, length, map, set, get_or, refl, sym, ap, ◌∙◌, subst, ⊎_elim, arith}
-use Rattle.std.specs.Prelude.{Some, None, Option, slice_get}
+use Rattle.std.proofs.Common.{◌≡◌, ◌≢◌, ℕ, ◌<◌, true, false, true≢false, List, [], ◌∷◌, length, map, set, refl, sym, ap, ◌∙◌, subst, ⊎_elim, arith}
+use Rattle.std.specs.Prelude.{Some}
 use mathlib.Core.Option.{some}
 use lib.ListN.{get_elem?}
 use Rattle.atomic_table.proofs.Lists.{at_map, set_here, set_else}
@@ -9,33 +9,22 @@ use Rattle.at_model.specs.World.{World}
 use Rattle.at_model.specs.History.{replay}
 use Rattle.at_view.specs.declared.view.TypeLists.{TypeLists}
 use Rattle.at_view.specs.declared.view.View.{View}
-use Rattle.at_view.specs.Words.{Words, updated, place}
+use Rattle.at_view.specs.Words.{Words, updated, place, global_sequence}
 use Rattle.at_core.specs.declared.lock.Lock as lock
 use Rattle.at_core.specs.declared.lock.Lock.TheVariants as locks
 use Rattle.at_core.specs.declared.stored.Stored.{Stored}
-use Rattle.at_core.specs.Heads.{Shape, shape_of}
+use Rattle.at_core.specs.Heads.{Shape, shape_of, IsWhole, IsOpened}
 use Rattle.at_core.specs.Locks.{lock_word, slot_of, hold_of, holds, copy_at, IsUnchanged}
-use Rattle.at_core.specs.Reads.{past_read, fresh_read, kin_read, number_read, holder_read, kept_read, types_read, row_read, join_read, limit_read}
-use Rattle.at_core.specs.Rule.{Homes, HistoryRule, RoomRule, KinRule, LockRule, NumberRule, SlotRule, KeptBy, KeptRule, TypesCopied, TypesRule, RowRule, JoinRule, LimitRule, Ghost, Parts, IsLock, RowsAre, Agrees, heads_of, types_words, row_words, shape_under}
-use Rattle.at_core.specs.Steps.{MayGive, given, lists_given, copied_heads}
-use Rattle.at_core.proofs.Lists.{each_set}
+use Rattle.at_core.specs.Reads.{past_read, fresh_read, kin_read, number_read, holder_read, kept_read, types_read, row_read, open_read, sequence_read, join_read, limit_read}
+use Rattle.at_core.specs.Rule.{Homes, HistoryRule, RoomRule, KinRule, LockRule, NumberRule, SlotRule, KeptBy, KeptRule, TypesCopied, TypesRule, RowRule, JoinRule, LimitRule, Ghost, Parts, IsLock, Agrees, OpenRule, SequenceRule, HeadParts, heads_of, row_locks_of, keys_of, values_of, own_sequences_of, types_words, row_words, shape_under}
+use Rattle.at_core.specs.Steps.{IsShut, MayGive, given, lists_given, copied_heads}
+use Rattle.at_core.proofs.Lists.{each_set, each_one}
 use Rattle.at_core.proofs.Prefixes.{prefix_self, prefix_trans}
 use Rattle.at_core.proofs.WordLemmas.{updated_here}
-use Rattle.at_core.proofs.LockLemmas.{lock_cases, slot_apart, other_word, same_place, same_heads, same_global, same_types, same_row, hold_given, hold_kept}
-use Rattle.at_core.proofs.Parts.{left_alone, changed, lock_freed, seen_begins, spent_set}
-
--- what a list has at an index, by the two ways to read it
-read_both : {A : Type 0} (xs ys : List A) (i : ℕ) (d : A) → slice_get xs i ≡ slice_get ys i → get_or xs i d ≡ get_or ys i d
-read_both xs ys i d e = sym (or_default xs i d) ∙ ap (λ (x : Option _). given_or x d) e ∙ or_default ys i d
-  where
-    given_or : {A : Type 0} → Option A → A → A
-    given_or None d = d
-    given_or (Some x) d = x
-
-    or_default : {A : Type 0} (xs : List A) (i : ℕ) (d : A) → given_or (slice_get xs i) d ≡ get_or xs i d
-    or_default [] i d = refl
-    or_default (x ∷ xs) zero d = refl
-    or_default (x ∷ xs) (suc i) d = or_default xs i d
+use Rattle.at_core.proofs.Written.{get_or-same}
+use Rattle.at_core.proofs.LockLemmas.{lock_cases, slot_apart, other_word, same_place, same_heads, same_keys, same_values, same_global, same_sequences, same_types, same_row, hold_given, hold_kept}
+use Rattle.at_core.proofs.HeadFrames.{odd_even, heads_locked, open_changed}
+use Rattle.at_core.proofs.Parts.{left_alone, changed, lock_freed, seen_begins, spent_set, known_left, looks_left, sequence_left}
 
 -- a value that agrees with a world agrees with each world in which the lock protected what it protects
 pub agrees_later : (limits : Limits) (before now : World) (lists : TypeLists) (shape : Shape) (l : lock.Lock) (x : Stored) → IsUnchanged l before now → Agrees limits before lists shape l x → Agrees limits now lists shape l x
@@ -54,7 +43,7 @@ agrees_later limits before now lists shape (locks.Row o) x same a = (
   a.0,
   a.1,
   record {
-    full = λ h. a.2.full h ∙ sym (read_both now.dicts before.dicts o [] same.1);
+    full = λ h. a.2.full h ∙ sym (get_or-same now.dicts before.dicts o [] same.1);
     empty = a.2.empty;
   },
 )
@@ -168,6 +157,50 @@ module _ (opened : World) (limits : Limits) (words : Words) (homes : Homes) (vie
         (λ (ne : locks.Row o ≢ l). left_alone (row_read o) (RowRule (row_words words o)) views id v w at (row_same o ne) (p.rows o))
         (lock_cases (locks.Row o) l)
 
+    -- a row that the pass holds has a copy of its head
+    copied : (o : ℕ) → holds (locks.Row o) v ≡ true → copied_heads v o ≡ heads_of words o
+    copied o held = ap (λ r. r.head) (p.rows o id (row_read o v) (at_map (row_read o) views id v at) held)
+
+    -- the lock of a row whose head is open stands
+    still_owned : (o : ℕ) → IsOpened (heads_of words o) → 0 < row_locks_of after o
+    still_owned o odd = ⊎_elim
+        (λ (e : locks.Row o ≡ l).
+        let whole : IsWhole (copied_heads v o) = subst (λ (k : lock.Lock). IsShut k v) (sym e) may.shut in
+        let held : holds (locks.Row o) v ≡ true = subst (λ (k : lock.Lock). holds k v ≡ true) (sym e) may.held in
+        absurd (odd_even (heads_of words o) odd (subst IsWhole (copied o held) whole)))
+        (λ (ne : locks.Row o ≢ l). let same : after (lock_word (locks.Row o)) ≡ words (lock_word (locks.Row o)) = other_word words (locks.Row o) l 0 ne in let was = (p.headed.heads_are o).owned odd in omega arith)
+        (lock_cases (locks.Row o) l)
+
+    -- the pass has no open head without the types that it had not before
+    open_after : (o : ℕ) → IsOpened (heads_of words o) → holds (locks.Row o) w ≡ true → holds locks.Types w ≡ false → OpenRule (replay opened g.history) o (heads_of words o) (open_read o w ∷ [])
+    open_after o odd row types = ⊎_elim
+        (λ (e : locks.Row o ≡ l). absurd (true≢false (sym row ∙ subst (λ (k : lock.Lock). holds k w ≡ false) (sym e) freed)))
+        (λ (ne : locks.Row o ≢ l).
+        let had : holds (locks.Row o) v ≡ true = ap (λ h. h.held) (sym (hold_kept (locks.Row o) l v ne)) ∙ row in
+        ⊎_elim
+        (λ (e : locks.Types ≡ l).
+        let shut : IsShut locks.Types v = subst (λ (k : lock.Lock). IsShut k v) (sym e) may.shut in
+        absurd (odd_even (heads_of words o) odd (subst IsWhole (copied o had) (shut o had))))
+        (λ (no : locks.Types ≢ l).
+        let same : open_read o w ≡ open_read o v = λ i. record { row = (hold_kept (locks.Row o) l v ne i).held; types = (hold_kept locks.Types l v no i).held } in
+        subst (λ r. OpenRule (replay opened g.history) o (heads_of words o) (r ∷ [])) (sym same) (λ odd'. each_one _ (open_read o v) (p.headed.open_are o odd' id (open_read o v) (at_map (open_read o) views id v at))))
+        (lock_cases locks.Types l))
+        (lock_cases (locks.Row o) l)
+
+    headed_after : HeadParts opened (heads_of after) (row_locks_of after) (keys_of after) (values_of after) g.history views_after
+    headed_after =
+        let Q : (ℕ → ℕ) × (ℕ → ℕ → ℕ) × (ℕ → ℕ → ℕ) → Type 0 = λ x. HeadParts opened x.0 (row_locks_of after) x.1 x.2 g.history views_after in
+        subst Q (λ i. (sym (same_heads words l 0) i, sym (same_keys words l 0) i, sym (same_values words l 0) i))
+        (record {
+          heads_are = heads_locked opened (heads_of words) (row_locks_of words) (row_locks_of after) (keys_of words) (values_of words) g.history views p.headed still_owned;
+          open_are = λ o. open_changed opened (heads_of words) g.history views id w o (p.headed.open_are o) (open_after o);
+          rows_are = p.headed.rows_are;
+          keys = p.headed.keys;
+          cells = p.headed.cells;
+          known = known_left views id v w at (keys_of words) refl p.headed.known;
+          looks = looks_left views id v w at opened (heads_of words) (keys_of words) g.history refl p.headed.looks;
+        })
+
     pub give_keeps : Parts opened limits after homes_after views_after g
     give_keeps =
         let count : after place ≡ words place = same_place words l 0 in
@@ -178,8 +211,10 @@ module _ (opened : World) (limits : Limits) (words : Words) (homes : Homes) (vie
           locks = locks_after;
           numbers = left_alone number_read (NumberRule g.lists.numbers) views id v w at refl p.numbers;
           slots = slots_after;
-          rows_are = subst RowsAre (sym (same_heads words l 0)) p.rows_are;
-          sequence = subst (λ (n : ℕ). 0 < n) (sym (same_global words l 0)) p.sequence;
+          headed = headed_after;
+          sequence =
+              let Q : ℕ × (ℕ → ℕ) → Type 0 = λ x. SequenceRule x.0 x.1 (map sequence_read views_after) in
+              subst Q (λ i. (sym (same_global words l 0) i, sym (same_sequences words l 0) i)) (sequence_left views id v w at (words global_sequence) (own_sequences_of words) refl p.sequence);
           kept = kept_after;
           types = subst (λ x. TypesRule g.lists x (map types_read views_after)) (sym (same_types words l 0)) (types_after l refl);
           rows = λ o. subst (λ x. RowRule x (map (row_read o) views_after)) (sym (same_row words l 0 o)) (rows_after o);

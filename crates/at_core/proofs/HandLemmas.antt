@@ -16,11 +16,11 @@ use Rattle.at_view.specs.declared.view.View.{View}
 use Rattle.at_core.specs.declared.lock.Lock as lock
 use Rattle.at_core.specs.declared.lock.Lock.TheVariants as locks
 use Rattle.at_core.specs.declared.stored.Stored.{Stored}
-use Rattle.at_core.specs.Locks.{slot_of, holds}
+use Rattle.at_core.specs.Locks.{slot_of, holds, HoldsNone}
 use Rattle.at_core.specs.Reads.{slot_number, in_hand}
 use Rattle.at_core.specs.Rule.{Slot, IsLock, weight}
-use Rattle.at_core.specs.Plays.{Took}
-use Rattle.at_core.specs.Steps.{Moment, marked, taken, given, ValueAgrees, MayGive}
+use Rattle.at_core.specs.Plays.{RowSays, Took}
+use Rattle.at_core.specs.Steps.{Moment, marked, taken, given, ValueAgrees, IsShut, MayGive}
 use Rattle.at_core.proofs.Counts.{times_cons, times_append, weight_same, weight_other, at_most_one}
 use Rattle.at_core.proofs.LockLemmas.{lock_cases, slot_apart, hold_marked, hold_taken, hold_beside, hold_given, hold_kept}
 
@@ -274,14 +274,19 @@ right_given l v x others once right k is = ⊎_elim
     (λ (ne : k ≢ l). ap is_some (sym (in_others (slot_of k) (slot_of l) x others (slot_apart k l ne))) ∙ (right k is ∙ sym (ap (λ h. h.held) (hold_kept k l v ne))))
     (lock_cases k l)
 
--- A lock that was just taken may be given back as it is
-pub given_at_once : (opened : World) (l : lock.Lock) (v : View) (at : Moment) (x : Stored) → Took opened l v at x → MayGive opened l (taken l v at) (taken l v at).types.lists x
-given_at_once opened l v at x took = record {
+-- A lock that was just taken, and is the only one, may be given back as it is
+pub given_at_once : (opened : World) (l : lock.Lock) (v : View) (at : Moment) (x : Stored) → HoldsNone v → Took opened l v at x → MayGive opened l (taken l v at) (taken l v at).types.lists x
+given_at_once opened l v at x none took = record {
   held = ap (λ h. h.held) (hold_taken l v at);
   returns = refl;
   agrees = agrees_so l took.value;
+  shut = shut_so l took.head;
 }
   where
+    shut_so : (k : lock.Lock) → RowSays opened k (taken k v at) → IsShut k (taken k v at)
+    shut_so locks.Types says = λ o held. absurd (true≢false (sym held ∙ none (locks.Row o)))
+    shut_so (locks.Row o) says = says.0
+
     agrees_so : (k : lock.Lock) → ValueAgrees opened k (taken k v at) at.lists x → ValueAgrees opened k (taken k v at) (taken k v at).types.lists x
     agrees_so locks.Types a = a
     agrees_so (locks.Row o) a = a

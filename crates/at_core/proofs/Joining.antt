@@ -1,6 +1,6 @@
 -- A pass takes in another.
 use Rattle.std.proofs.Common.{◌≡◌, ◌≢◌, ◌⊎◌, ℕ, zero, suc, ◌+◌, ◌*◌, ◌<◌, ◌≤◌, ◌==◌, ◌&&◌, Bool, true, false, true≢false, cond, List, [], ◌∷◌, ◌++◌, length, map, set, get_or, refl, sym, ap, ◌∙◌, subst, ⊎_elim, inl, inr, arith, length-set}
-use Rattle.std.specs.Prelude.{count_by, sum_by, nat_lt}
+use Rattle.std.specs.Prelude.{All, count_by, sum_by, nat_lt, slice_index}
 use mathlib.Core.Option.{some, some-injective}
 use mathlib.Core.List.{IsPrefix}
 use mathlib.Core.Logic.{dite}
@@ -17,16 +17,20 @@ use Rattle.at_view.specs.declared.view.TypeLists.{TypeLists}
 use Rattle.at_view.specs.declared.view.View.{View}
 use Rattle.at_view.specs.Views.{blank, no_hold, longer}
 use Rattle.at_view.specs.Counts.{passes}
-use Rattle.at_view.specs.Words.{Words, place}
+use Rattle.at_view.specs.Words.{Words, place, global_sequence}
 use Rattle.at_core.specs.declared.lock.Lock as lock
 use Rattle.at_core.specs.declared.lock.Lock.TheVariants as locks
+use Rattle.at_core.specs.Inline.{HaveGrown}
+use Rattle.at_core.specs.Looks.{keys_at, IsBacked}
 use Rattle.at_core.specs.Locks.{lock_word, slot_of, hold_of}
-use Rattle.at_core.specs.Reads.{PastRead, past_read, fresh_read, KinRead, kin_read, births_of, NumberRead, number_read, HolderRead, holder_read, kept_read, TypesRead, types_read, row_read, join_read, limit_read}
-use Rattle.at_core.specs.Rule.{Homes, Each, weight, is_born, has_number, HistoryRule, KinRule, LockRule, NumberRule, SlotRule, KeptBy, TypesCopied, TypesRule, Ghost, Parts, IsLock, heads_of, types_words, row_words, shape_under}
+use Rattle.at_core.specs.Reads.{PastRead, past_read, fresh_read, KinRead, kin_read, births_of, NumberRead, number_read, HolderRead, holder_read, kept_read, TypesRead, types_read, row_read, open_read, known_read, looks_read, sequence_read, join_read, limit_read}
+use Rattle.at_core.specs.Rule.{Homes, Each, weight, is_born, has_number, HistoryRule, KinRule, LockRule, NumberRule, SlotRule, KeptBy, TypesCopied, TypesRule, SequenceRule, Ghost, Parts, IsLock, heads_of, keys_of, own_sequences_of, types_words, row_words, shape_under}
 use Rattle.at_core.specs.Steps.{MayJoin, lists_joined, merged, without}
 use Rattle.at_core.proofs.Lists.{each_set, each_other, there, sum_set, sum_has, map_set, map_back}
 use Rattle.at_core.proofs.Counts.{weight_same, weight_other, times_cons, times_append, times_without, weight_set, count_set_free}
 use Rattle.at_core.proofs.Prefixes.{prefix_self, prefix_trans, prefix_length, prefix_shorter}
+use Rattle.at_core.proofs.HeadFrames.{none_known, none_backed}
+use Rattle.at_core.proofs.SequenceSteps.{sequence_loaded, sequence_spent}
 use Rattle.at_core.proofs.Parts.{seen_begins, holder_is}
 
 -- the longer of two prefixes is one, and each begins it
@@ -298,8 +302,24 @@ module _ (opened : World) (limits : Limits) (words : Words) (homes : Homes) (vie
     locks = locks_after;
     numbers = numbers_after;
     slots = slots_after;
-    rows_are = p.rows_are;
-    sequence = p.sequence;
+    headed = record {
+      heads_are = p.headed.heads_are;
+      open_are = λ o odd. each_after (open_read o) _ (p.headed.open_are o odd)
+          (p.headed.open_are o odd id (open_read o v) (at_map (open_read o) views id v at))
+          (λ row types found. absurd (true≢false (sym row)));
+      rows_are = p.headed.rows_are;
+      keys = p.headed.keys;
+      cells = p.headed.cells;
+      known = each_after known_read (λ i known. (k : ℕ) → HaveGrown (slice_index (keys_at k known)) (keys_of words k)) p.headed.known (p.headed.known id v.known (at_map known_read views id v at)) (none_known (keys_of words) [] refl);
+      looks = each_after looks_read (λ i looks. All (λ look. IsBacked opened (heads_of words look.object) (keys_of words) g.history look) looks) p.headed.looks (p.headed.looks id v.looks (at_map looks_read views id v at))
+          (none_backed opened (heads_of words) (keys_of words) g.history [] refl);
+    };
+    sequence = part_after sequence_read (SequenceRule (words global_sequence) (own_sequences_of words))
+        (sequence_spent (words global_sequence) (own_sequences_of words) (set (map sequence_read views) id (sequence_read m))
+        (sequence_loaded (words global_sequence) (own_sequences_of words) (map sequence_read views) p.sequence id (sequence_read v) (sequence_read m) (at_map sequence_read views id v at) (record { live = refl; number = refl }) refl
+        (p.sequence.loaded id (sequence_read v) (at_map sequence_read views id v at)))
+        other (sequence_read w) (sequence_read blank)
+        (set_else (map sequence_read views) id other (sequence_read m) apart ∙ at_map sequence_read views other w at') live' may.offline refl refl);
     kept = λ k. each_after (kept_read k) (λ i u. u.hold.held ≡ true → KeptBy opened k g.history u) (p.kept k) (kept_m k) (λ on. absurd (true≢false (sym on ∙ ap (λ h. h.held) (hold_blank k))));
     types = types_after;
     rows = λ o. each_after (row_read o) (λ i u. u.held ≡ true → u.words ≡ row_words words o) (p.rows o) (p.rows o id (row_read o v) (at_map (row_read o) views id v at)) (λ on. absurd (true≢false (sym on)));

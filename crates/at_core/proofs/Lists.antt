@@ -3,8 +3,10 @@ use Rattle.std.proofs.Common.{◌≡◌, ◌≢◌, ℕ, zero, suc, ◌+◌, ◌
 use Rattle.std.specs.Prelude.{sum_by}
 use Rattle.std.proofs.lemmas.List.Sums.{sum_by-cons, sum_by-set, get_or-le-sum_by}
 use mathlib.Core.Option.{some, some-injective, some-ne-none}
+use mathlib.Core.Logic.{dite}
+use native.Mathlib.Decide.{ℕ_discrete}
 use lib.ListN.{get_elem?}
-use Rattle.atomic_table.proofs.Lists.{at_set, at_snoc, at_map, set_again}
+use Rattle.atomic_table.proofs.Lists.{at_set, at_snoc, at_map, set_again, set_here, set_else}
 use Rattle.at_core.specs.Rule.{Each}
 
 module _ {A : Type 0} where
@@ -23,17 +25,25 @@ module _ {A : Type 0} where
       (λ (t : (j ≢ i) × (get_elem? xs j ≡ some x)). others j x t.0 t.1)
       (at_set xs i j y x e)
 
+  pub there : (xs : List A) (i : ℕ) (x : A) → get_elem? xs i ≡ some x → i < length xs
+  there [] i x e = absurd (some-ne-none x (sym e))
+  there (y ∷ xs) zero x e = omega arith
+  there (y ∷ xs) (suc i) x e = let lt = there xs i x e in omega arith
+
+  -- what is so where one item has changed was so before, if it was so of that item
+  pub each_back : (P : ℕ → A → Type 0) (xs : List A) (i : ℕ) (x y : A) → get_elem? xs i ≡ some x → (P i y → P i x) → Each P (set xs i y) → Each P xs
+  each_back P xs i x y at back all j z e = dite (ℕ_discrete j i)
+      (λ (is : j ≡ i).
+      let same : x ≡ z = some-injective x z (sym at ∙ (ap (get_elem? xs) (sym is) ∙ e)) in
+      subst (λ (k : ℕ × A). P k.0 k.1) (λ k. (sym is k, same k)) (back (all i y (set_here xs i y (there xs i x at)))))
+      (λ (ne : j ≢ i). all j z (set_else xs i j y ne ∙ e))
+
   pub each_snoc : (P : ℕ → A → Type 0) (xs : List A) (y : A) → Each P xs → ((j : ℕ) → P j y) → Each P (xs ++ y ∷ [])
   each_snoc P xs y all new j x e = ⊎_elim (λ (t : get_elem? xs j ≡ some x). all j x t) (λ (t : y ≡ x). subst (P j) t (new j)) (at_snoc xs y x j e)
 
   pub each_one : (P : ℕ → A → Type 0) (x : A) → P 0 x → Each P (x ∷ [])
   each_one P x p zero y e = subst (P 0) (some-injective x y e) p
   each_one P x p (suc j) y e = absurd (some-ne-none y (sym e))
-
-  pub there : (xs : List A) (i : ℕ) (x : A) → get_elem? xs i ≡ some x → i < length xs
-  there [] i x e = absurd (some-ne-none x (sym e))
-  there (y ∷ xs) zero x e = omega arith
-  there (y ∷ xs) (suc i) x e = let lt = there xs i x e in omega arith
 
   pub got : (xs : List A) (i : ℕ) (x d : A) → get_elem? xs i ≡ some x → get_or xs i d ≡ x
   got [] i x d e = absurd (some-ne-none x (sym e))

@@ -4,7 +4,9 @@ use Rattle.std.specs.Prelude.{if◌then◌else◌}
 use mathlib.Core.Logic.{dite}
 use native.Mathlib.Decide.{ℕ_discrete}
 use Rattle.at_model.specs.World.{World}
+use Rattle.at_value.specs.declared.operation.Op as op
 use Rattle.at_view.specs.declared.mark.Mark.{Mark}
+use Rattle.at_view.specs.declared.mark.StepKind as step_kind
 use Rattle.at_view.specs.declared.view.RowHold.{RowHold}
 use Rattle.at_view.specs.declared.view.RowCopy.{RowCopy}
 use Rattle.at_view.specs.declared.view.View.{View}
@@ -13,7 +15,9 @@ use Rattle.at_view.specs.Words.{Words, updated, is_same, place, global_sequence}
 use Rattle.at_core.specs.declared.lock.Lock as lock
 use Rattle.at_core.specs.declared.lock.Lock.TheVariants as locks
 use Rattle.at_core.specs.Locks.{lock_word, slot_of, hold_at, hold_of, holds, copy_at, IsUnchanged}
-use Rattle.at_core.specs.Rule.{heads_of, types_words, row_words}
+use Rattle.at_core.specs.Rule.{heads_of, keys_of, values_of, own_sequences_of, types_words, row_words}
+use Rattle.at_core.specs.PlaceSteps.{place_loaded}
+use Rattle.at_core.specs.HeadSteps.{head_stored, inline_stored, key_appended}
 use Rattle.at_core.specs.Steps.{Moment, marked, hold_from, taken, missed, let_go, given, parted, child, merged}
 use Rattle.at_core.proofs.WordLemmas.{updated_else}
 
@@ -55,6 +59,18 @@ same_heads words (locks.Row o) n = refl
 pub same_global : (words : Words) (l : lock.Lock) (n : ℕ) → updated words (lock_word l) n global_sequence ≡ words global_sequence
 same_global words locks.Types n = refl
 same_global words (locks.Row o) n = refl
+
+pub same_keys : (words : Words) (l : lock.Lock) (n : ℕ) → keys_of (updated words (lock_word l) n) ≡ keys_of words
+same_keys words locks.Types n = refl
+same_keys words (locks.Row o) n = refl
+
+pub same_values : (words : Words) (l : lock.Lock) (n : ℕ) → values_of (updated words (lock_word l) n) ≡ values_of words
+same_values words locks.Types n = refl
+same_values words (locks.Row o) n = refl
+
+pub same_sequences : (words : Words) (l : lock.Lock) (n : ℕ) → own_sequences_of (updated words (lock_word l) n) ≡ own_sequences_of words
+same_sequences words locks.Types n = refl
+same_sequences words (locks.Row o) n = refl
 
 pub same_types : (words : Words) (l : lock.Lock) (n : ℕ) → types_words (updated words (lock_word l) n) ≡ types_words words
 same_types words locks.Types n = refl
@@ -135,6 +151,22 @@ holds_blank (locks.Row o) = refl
 pub holds_missed : (k l : lock.Lock) (v : View) (n : ℕ) → holds k (missed l v n) ≡ holds k v
 holds_missed locks.Types l v n = refl
 holds_missed (locks.Row o) l v n = refl
+
+pub held_seen : (k : lock.Lock) (v : View) (at : List op.Op) → holds k (place_loaded v at) ≡ holds k v
+held_seen locks.Types v at = refl
+held_seen (locks.Row o) v at = refl
+
+pub held_stored : (k : lock.Lock) (kind : step_kind.StepKind) (v : View) (o n : ℕ) → holds k (head_stored kind v o n) ≡ holds k v
+held_stored locks.Types kind v o n = refl
+held_stored (locks.Row p) kind v o n = refl
+
+pub held_inline : (k : lock.Lock) (v : View) (o i n : ℕ) → holds k (inline_stored v o i n) ≡ holds k v
+held_inline locks.Types v o i n = refl
+held_inline (locks.Row p) v o i n = refl
+
+pub held_appended : (k : lock.Lock) (v : View) (c i n : ℕ) → holds k (key_appended v c i n) ≡ holds k v
+held_appended locks.Types v c i n = refl
+held_appended (locks.Row p) v c i n = refl
 
 -- what a lock protects is as it is
 pub unchanged_self : (l : lock.Lock) (w : World) → IsUnchanged l w w

@@ -41,6 +41,7 @@ module _ (opened : World) (limits : Limits) (s : Board) (g : Ghost) (h : Holds o
     words_are = length-set s.words (number_of (lock_word l)) (suc v.who.number) ∙ h.words_are;
     slots_are = length-set s.homes (slot_of l) none ∙ h.slots_are;
     small = h.small;
+    formed = h.formed;
     parts = subst (λ (ws : Words). Parts opened limits ws (set s.homes (slot_of l) none) (set s.views id (taken l v now)) g) (sym (stored s.words h.words_are (lock_word l) (suc v.who.number) is))
         (take_keeps opened limits (words_of s.words) s.homes s.views g h.parts id v at live l is free (room l is));
   }
@@ -50,6 +51,7 @@ module _ (opened : World) (limits : Limits) (s : Board) (g : Ghost) (h : Holds o
     words_are = length-set s.words (number_of (lock_word l)) n ∙ h.words_are;
     slots_are = h.slots_are;
     small = h.small;
+    formed = h.formed;
     parts = subst (λ (ws : Words). Parts opened limits ws s.homes (set s.views id (missed l v n)) g)
         (sym (ap (λ (k : ℕ). words_of (set s.words (number_of (lock_word l)) k)) (found ∙ said s.words (lock_word l) is) ∙ reloaded s.words (number_of (lock_word l))))
         (miss_keeps opened limits (words_of s.words) s.homes s.views g h.parts id v at live l n);
@@ -61,6 +63,7 @@ module _ (opened : World) (limits : Limits) (s : Board) (g : Ghost) (h : Holds o
     words_are = length-set s.words (number_of (lock_word l)) 0 ∙ h.words_are;
     slots_are = length-set s.homes (slot_of l) (some (Some x)) ∙ h.slots_are;
     small = h.small;
+    formed = h.formed;
     parts =
         let same : lists_given l back g.lists ≡ g.lists = lists_stay opened limits (words_of s.words) s.homes s.views g h.parts id v at live l back x may in
         let Q : Words × TypeLists → Type 0 = λ y. Parts opened limits y.0 (set s.homes (slot_of l) (some (Some x))) (set s.views id (given l v)) (record g { lists = y.1 }) in
@@ -73,6 +76,7 @@ module _ (opened : World) (limits : Limits) (s : Board) (g : Ghost) (h : Holds o
     words_are = h.words_are;
     slots_are = h.slots_are;
     small = h.small;
+    formed = h.formed;
     parts = split_keeps opened limits (words_of s.words) s.homes s.views g h.parts id v at live number may;
   }
 
@@ -82,5 +86,6 @@ module _ (opened : World) (limits : Limits) (s : Board) (g : Ghost) (h : Holds o
     words_are = h.words_are;
     slots_are = h.slots_are;
     small = h.small;
+    formed = h.formed;
     parts = join_keeps opened limits (words_of s.words) s.homes s.views g h.parts id v at live other w apart at' live' may;
   }

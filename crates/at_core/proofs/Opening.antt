@@ -1,6 +1,6 @@
 -- The opening state.
-use Rattle.std.proofs.Common.{◌≡◌, ℕ, zero, suc, ◌+◌, ◌-◌, ◌<◌, ◌≤◌, ◌==◌, ◌&&◌, Bool, true, false, true≢false, List, [], ◌∷◌, ◌++◌, length, map, get_or, replicate, refl, sym, ap, ◌∙◌, subst, ⊎_elim, arith, length-append}
-use Rattle.std.specs.Prelude.{Some, None, count_by, nat_lt, if◌then◌else◌}
+use Rattle.std.proofs.Common.{◌≡◌, ◌≢◌, inl, ℕ, zero, suc, ◌+◌, ◌-◌, ◌<◌, ◌≤◌, ◌==◌, ◌&&◌, Bool, true, false, true≢false, List, [], ◌∷◌, ◌++◌, length, map, get_or, replicate, refl, sym, ap, ◌∙◌, subst, ⊎_elim, arith, length-append}
+use Rattle.std.specs.Prelude.{Some, None, count_by, nat_lt, slice_get, if◌then◌else◌}
 use Rattle.std.proofs.lemmas.Bool.Decides.{nat_tests}
 use Rattle.std.proofs.lemmas.List.{length-replicate, length-map}
 use Rattle.std.proofs.lemmas.List.Sums.{sum_by-cons}
@@ -10,24 +10,27 @@ use Rattle.atomic_table.specs.Table.{opening}
 use Rattle.atomic_table.proofs.Lists.{at_map, at_snoc}
 use Rattle.at_value.specs.Widths.{objects}
 use Rattle.at_value.specs.declared.limits.Limits.{Limits}
+use Rattle.at_model.specs.declared.rows.Object.{Object}
 use Rattle.at_model.specs.World.{World}
 use Rattle.at_dict.specs.Dictionary.{Dictionary}
 use Rattle.at_view.specs.declared.view.View.{View}
 use Rattle.at_view.specs.Counts.{passes}
 use Rattle.at_view.specs.Views.{first_view}
-use Rattle.at_view.specs.Words.{Word, number_of, is_there, table_words, row_lock, head}
+use Rattle.at_view.specs.Words.{Word, number_of, is_there, table_words, own_sequence, key, row_lock, head, inline_value}
 use Rattle.at_core.specs.declared.lock.Lock as lock
 use Rattle.at_core.specs.declared.lock.Lock.TheVariants as locks
 use Rattle.at_core.specs.declared.stored.Stored.TheVariants as stored
-use Rattle.at_core.specs.Heads.{shape_of, HasDictionary}
+use Rattle.at_core.specs.Heads.{shape_of, HasDictionary, IsHead}
+use Rattle.at_core.specs.Inline.{IsHeadOf}
 use Rattle.at_core.specs.Locks.{lock_word, slot_of, holds}
-use Rattle.at_core.specs.Reads.{past_read, kin_read, holder_read, kept_read, types_read, row_read, join_read, limit_read}
-use Rattle.at_core.specs.Rule.{Slot, Homes, weight, LockRule, SlotRule, IsLock, Parts, Base, words_of, heads_of, shape_under}
+use Rattle.at_core.specs.Reads.{past_read, kin_read, holder_read, kept_read, types_read, row_read, known_read, looks_read, sequence_read, join_read, limit_read}
+use Rattle.at_core.specs.Rule.{Slot, Homes, weight, LockRule, SlotRule, IsLock, Parts, Base, words_of, heads_of, keys_of, values_of, own_sequences_of, shape_under}
 use Rattle.at_core.specs.Runs.{Core, opening_words, opening_numbers, opening_lists, AreFirstSlots, IsOpening, IsAllowed, CoreHolds, OpeningHolds}
 use Rattle.at_model.specs.World as model
 use Rattle.at_model.proofs.Worlds.{opening_is_formed}
 use Rattle.at_core.proofs.Lists.{each_one}
 use Rattle.at_core.proofs.Counts.{at_most_one, weight_other}
+use Rattle.at_core.proofs.HeadFrames.{odd_even, none_known, none_backed}
 
 -- what the list has at an index below its length
 pub has_index : {A : Type 0} (xs : List A) (i : ℕ) → i < length xs → (x : A) × (get_elem? xs i ≡ some x)
@@ -61,6 +64,17 @@ free_at_first (locks.Row o) = late_word (row_lock o) (omega arith)
 
 pub head_at_first : (o : ℕ) → heads_of (words_of opening_words) o ≡ 0
 head_at_first o = late_word (head o) (omega arith)
+
+key_at_first : (c i : ℕ) → keys_of (words_of opening_words) c i ≡ 0
+key_at_first c i = late_word (key c i) (omega arith)
+
+value_at_first : (o i : ℕ) → values_of (words_of opening_words) o i ≡ 0
+value_at_first o i = late_word (inline_value o i) (omega arith)
+
+-- each pass but the first is offline
+no_sequence : (q : ℕ) → 0 ≢ q → own_sequences_of (words_of opening_words) q ≡ 0
+no_sequence zero ne = absurd (ne refl)
+no_sequence (suc q) ne = late_word (own_sequence (suc q)) (omega arith)
 
 pub no_dictionary : (w : ℕ) → w ≡ 0 → ¬ HasDictionary (shape_of w)
 no_dictionary w e = λ h. let z : (shape_of 0).layout ≡ 2 = ap (λ (n : ℕ). (shape_of n).layout) (sym e) ∙ h in absurd (omega arith)
@@ -130,6 +144,21 @@ module _ (opened : World) (limits : Limits) (a : Core) (allowed : IsAllowed limi
   v : View
   v = first_view limits
 
+  no_object : (k : ℕ) (keys_are : ℕ → ℕ → ℕ) (values : ℕ → ℕ) → ((i : ℕ) → values i ≡ 0) → IsHeadOf opened k 0 keys_are values
+  no_object k keys_are values none = record {
+    object = record {
+      absent = λ _. (refl, ap (λ (objects : List Object). slice_get objects k) o.objectless ∙ nothing k);
+      present = λ ne. absurd (ne (omega arith));
+    };
+    blank = λ e. none;
+    row = λ e. let z : (shape_of 0).layout ≡ 1 = e in absurd (omega arith);
+    values = λ e. let z : (shape_of 0).layout ≡ 1 = e in absurd (omega arith);
+  }
+    where
+      nothing : (i : ℕ) → slice_get {X = Object} [] i ≡ None
+      nothing zero = refl
+      nothing (suc i) = refl
+
   nothing_held : (l : lock.Lock) → holds l (first_view limits) ≡ false
   nothing_held locks.Types = refl
   nothing_held (locks.Row k) = refl
@@ -183,8 +212,31 @@ module _ (opened : World) (limits : Limits) (a : Core) (allowed : IsAllowed limi
       all = let e = count_trues (passes - 1) in let c = sum_by-cons (λ (b : Bool). weight b) false (replicate (passes - 1) true) in omega arith;
     };
     slots = slot_is;
-    sequence = omega arith;
-    rows_are = λ k h. absurd (no_dictionary (heads_of (words_of opening_words) k) (head_at_first k) h);
+    sequence = record {
+      begun = omega arith;
+      loaded = each_one _ (sequence_read (first_view limits)) (omega arith);
+      offline = each_one _ (sequence_read (first_view limits)) (λ live off. absurd (true≢false off));
+      online = each_one _ (sequence_read (first_view limits)) (λ live on. (omega arith, omega arith));
+      spare = λ q none. no_sequence q (none 0 (sequence_read (first_view limits)) refl refl);
+    };
+    headed = record {
+      heads_are = λ k. record {
+        is = subst IsHead (sym (head_at_first k)) (omega arith, omega arith);
+        says = λ whole. subst (λ (n : ℕ). IsHeadOf opened k n (keys_of (words_of opening_words)) (values_of (words_of opening_words) k)) (sym (head_at_first k)) (no_object k (keys_of (words_of opening_words)) (values_of (words_of opening_words) k) (value_at_first k));
+        owned = λ odd. let z = head_at_first k in absurd (odd_even (heads_of (words_of opening_words) k) odd (omega arith));
+      };
+      open_are = λ k odd. let z = head_at_first k in absurd (odd_even (heads_of (words_of opening_words) k) odd (omega arith));
+      rows_are = λ k h. absurd (no_dictionary (heads_of (words_of opening_words) k) (head_at_first k) h);
+      keys = λ c. record {
+        small = λ i. let z = key_at_first c i in omega arith;
+        past = λ i le. key_at_first c i;
+        first = λ i j le e. key_at_first c j;
+        distinct = λ i j n e e'. let z = key_at_first c i in absurd (omega arith);
+      };
+      cells = λ k i. inl (value_at_first k i);
+      known = each_one _ (known_read (first_view limits)) (none_known (keys_of (words_of opening_words)) [] refl);
+      looks = each_one _ (looks_read (first_view limits)) (none_backed opened (heads_of (words_of opening_words)) (keys_of (words_of opening_words)) [] [] refl);
+    };
     kept = λ l. each_one _ (kept_read l (first_view limits)) (λ on. absurd (true≢false (sym on ∙ nothing_held l)));
     types = each_one _ (types_read (first_view limits)) (λ on. absurd (true≢false (sym on)));
     rows = λ k. each_one _ (row_read k (first_view limits)) (λ on. absurd (true≢false (sym on)));
@@ -195,7 +247,7 @@ module _ (opened : World) (limits : Limits) (a : Core) (allowed : IsAllowed limi
 
   pub opens : CoreHolds opened limits a
   opens = subst (CoreHolds opened limits) (sym (first_core opened limits a o)) (record {
-    table_holds = record { words_are = long_enough; slots_are = ap suc (length-map o.slots_are.bodies some ∙ o.slots_are.long); small = allowed; parts = parts };
+    table_holds = record { words_are = long_enough; slots_are = ap suc (length-map o.slots_are.bodies some ∙ o.slots_are.long); small = allowed; formed = o.whole; parts = parts };
     hands_are = λ id u l e is. each_one (λ i x. false ≡ holds l x) (first_view limits) (sym (nothing_held l)) id u e;
   })
 

@@ -1,28 +1,32 @@
 -- The run that is written out.
-use Rattle.std.proofs.Common.{◌≡◌, ◌≢◌, ℕ, zero, suc, ◌<◌, Bool, false, IsTrue, List, [], ◌∷◌, length, map, set, drop, refl, sym, ap, ◌∙◌, subst, arith, length-set}
-use Rattle.std.specs.Prelude.{Some, None}
-use mathlib.Core.Option.{some}
+use Rattle.std.proofs.Common.{◌≡◌, ℕ, zero, suc, ◌-◌, ◌<◌, ◌≤◌, Bool, true, false, List, [], ◌∷◌, ◌++◌, map, get_or, drop, refl, sym, ap, ◌∙◌, subst, arith}
+use Rattle.std.specs.Prelude.{Some, None, if◌then◌else◌}
+use Rattle.std.proofs.lemmas.List.{get_or-replicate}
+use mathlib.Core.Option.{some, none, some-injective, some-ne-none}
 use lib.ListN.{get_elem?}
-use Rattle.atomic_table.proofs.Lists.{at_map}
+use Rattle.atomic_table.specs.Table as tables
 use Rattle.at_value.specs.declared.limits.Limits.{Limits}
-use Rattle.at_model.specs.World.{World}
+use Rattle.at_model.specs.World.{World, opening}
 use Rattle.at_dict.specs.Dictionary.{Dictionary}
-use Rattle.at_view.specs.declared.view.TypeLists.{TypeLists}
-use Rattle.at_view.specs.declared.view.View.{View}
-use Rattle.at_view.specs.Views.{first_view}
-use Rattle.at_view.specs.Words.{Word, number_of, is_there, is_same, table_words, type_lock, global_sequence, own_sequence, row_lock, head}
-use Rattle.at_core.specs.declared.lock.Lock as lock
+use Rattle.at_view.specs.Views.{blank, first_view}
+use Rattle.at_view.specs.Words.{Word, number_of, is_there, table_words, place, key, head, inline_value, row_lock}
+use Rattle.at_view.proofs.WordLaws.{inside}
 use Rattle.at_core.specs.declared.lock.Lock.TheVariants as locks
 use Rattle.at_core.specs.declared.stored.Stored.{Stored}
 use Rattle.at_core.specs.declared.stored.Stored.TheVariants as stored
-use Rattle.at_core.specs.Locks.{slot_of, holds}
-use Rattle.at_core.specs.Rule.{Homes, TypesAgree, words_of}
-use Rattle.at_core.specs.Steps.{Moment, taken, missed, given, lists_parted, child, lists_joined}
-use Rattle.at_core.specs.Runs.{Core, Event, lock_take, lock_miss, lock_give, slot_out, slot_in, split, join, global_load, go_online, go_offline, moment_of, opening_lists, opening_words, Goes, Leads}
-use Rattle.at_core.specs.SomeRun.{some_events, HaveEachKind, SomeRunGoes}
-use Rattle.at_core.proofs.WordLemmas.{updated_here, updated_else, stored}
-use Rattle.at_core.proofs.LockLemmas.{hold_beside, hold_kept}
-use Rattle.at_core.proofs.Opening.{first_core, has_index, free_at_first, head_at_first, no_dictionary, long_enough}
+use Rattle.at_core.specs.Rule.{Slot, TypesAgree, words_of}
+use Rattle.at_core.specs.Runs.{Core, Event, lock_take, lock_miss, lock_give, slot_out, slot_in, split, join, global_load, go_online, go_offline, place_load, intent_store, commit, commit_if, commit_miss, head_load, inline_load, key_load, head_open, head_close, inline_store, key_append, opening_lists, opening_words, Leads}
+use Rattle.at_core.specs.SomeRun.{some_events, lock_events, class_events, object_events, value_events, HaveEachKind, SomeRunGoes}
+use Rattle.at_core.proofs.SomeRunWords.{are_beside}
+use Rattle.at_core.proofs.SomeRunLocks as first_part
+use Rattle.at_core.proofs.SomeRunLocks.{LockStart}
+use Rattle.at_core.proofs.SomeRunClass as second_part
+use Rattle.at_core.proofs.SomeRunClass.{ClassStart}
+use Rattle.at_core.proofs.SomeRunObject as third_part
+use Rattle.at_core.proofs.SomeRunObject.{ObjectStart}
+use Rattle.at_core.proofs.SomeRunValue as last_part
+use Rattle.at_core.proofs.SomeRunValue.{ValueStart}
+use Rattle.at_core.proofs.Opening.{first_core, has_index, free_at_first, head_at_first, long_enough}
 
 pub have_each_kind : HaveEachKind
 have_each_kind x y (lock_take id l) = (0, omega arith, refl)
@@ -35,238 +39,174 @@ have_each_kind x y (join id other) = (10, omega arith, refl)
 have_each_kind x y (go_offline id) = (13, omega arith, refl)
 have_each_kind x y (global_load id) = (14, omega arith, refl)
 have_each_kind x y (go_online id) = (15, omega arith, refl)
+have_each_kind x y (key_append id c i n) = (19, omega arith, refl)
+have_each_kind x y (place_load id) = (20, omega arith, refl)
+have_each_kind x y (intent_store id j n) = (21, omega arith, refl)
+have_each_kind x y (commit id operation) = (22, omega arith, refl)
+have_each_kind x y (head_open id o) = (24, omega arith, refl)
+have_each_kind x y (inline_store id o i n) = (32, omega arith, refl)
+have_each_kind x y (head_close id o n) = (28, omega arith, refl)
+have_each_kind x y (commit_miss id operation) = (40, omega arith, refl)
+have_each_kind x y (commit_if id operation) = (42, omega arith, refl)
+have_each_kind x y (head_load id o) = (43, omega arith, refl)
+have_each_kind x y (inline_load id o i) = (44, omega arith, refl)
+have_each_kind x y (key_load id c i) = (45, omega arith, refl)
 
--- a word that was stored, and another one
-said_here : (words : List ℕ) → length words ≡ table_words → (a : Word) (n : ℕ) → IsTrue (is_there a) → words_of (set words (number_of a) n) a ≡ n
-said_here words wide a n here = ap (λ w. w a) (stored words wide a n here) ∙ updated_here (words_of words) a n
+-- events that follow others
+leads_then : (opened : World) (events more : List Event) (a b c : Core) → Leads opened events a b → Leads opened more b c → Leads opened (events ++ more) a c
+leads_then opened [] more a b c first next = subst (λ s. Leads opened more s c) first next
+leads_then opened (event ∷ events) more a b c first next = (first.0, first.1, leads_then opened events more first.0 b c first.2 next)
 
-said_else : (words : List ℕ) → length words ≡ table_words → (a b : Word) (n : ℕ) → IsTrue (is_there a) → is_same b a ≡ false → words_of (set words (number_of a) n) b ≡ words_of words b
-said_else words wide a b n here ne = ap (λ w. w b) (stored words wide a n here) ∙ updated_else (words_of words) a b n ne
+-- at first each word from the fifth on is 0
+zero_at_first : (a : Word) → 4 ≤ number_of a → words_of opening_words a ≡ 0
+zero_at_first a le = by_test (is_there a) refl
+  where
+    late : (i : ℕ) → 4 ≤ i → i < table_words → ◌≡◌ {A = ℕ} (get_or opening_words i 0) 0
+    late i from lt =
+        ap (λ (n : ℕ). get_or opening_words n 0) (let is : i ≡ suc (suc (suc (suc (i - 4)))) = omega arith in is)
+        ∙ get_or-replicate (table_words - 4) (i - 4) 0 0 (omega arith)
 
-wide_still : (words : List ℕ) (i n : ℕ) → length words ≡ table_words → length (set words i n) ≡ table_words
-wide_still words i n wide = length-set words i n ∙ wide
+    by_test : (t : Bool) → is_there a ≡ t → words_of opening_words a ≡ 0
+    by_test true e = ap (λ (t : Bool). if t then get_or opening_words (number_of a) 0 else 0) e ∙ late (number_of a) le (inside a e)
+    by_test false e = ap (λ (t : Bool). if t then get_or opening_words (number_of a) 0 else 0) e
 
--- a new pass that found a lock held, and took a row and gave it back, has no lock
-row_let_go : (v : View) (n : ℕ) (at : Moment) (l : lock.Lock) → holds l (given (locks.Row 0) (taken (locks.Row 0) (missed locks.Types (child v) n) at)) ≡ false
-row_let_go v n at locks.Types = refl
-row_let_go v n at (locks.Row zero) = refl
-row_let_go v n at (locks.Row (suc o)) =
-    let ne : locks.Row (suc o) ≢ locks.Row 0 = λ e. let same = ap slot_of e in omega arith in
-    ap (λ h. h.held) (hold_kept (locks.Row (suc o)) (locks.Row 0) (taken (locks.Row 0) (missed locks.Types (child v) n) at) ne ∙ hold_beside (locks.Row (suc o)) (locks.Row 0) (missed locks.Types (child v) n) at ne)
+-- where a list has this at an index, it goes on from there with it
+goes_on : {A : Type 0} (xs : List A) (i : ℕ) (x : A) → get_elem? xs i ≡ some x → drop i xs ≡ x ∷ drop (suc i) xs
+goes_on [] zero x e = absurd (some-ne-none x (sym e))
+goes_on (y ∷ ys) zero x e = ap (λ z. z ∷ ys) (some-injective y x e)
+goes_on [] (suc i) x e = absurd (some-ne-none x (sym e))
+goes_on (y ∷ ys) (suc i) x e = goes_on ys i x e
 
--- The run, over any words and homes of which this is known
-module _ (opened : World) (limits : Limits) (words : List ℕ) (wide : length words ≡ table_words) (free : words_of words type_lock ≡ 0) (row_free : words_of words (row_lock 0) ≡ 0) (unmade : words_of words (head 0) ≡ 0) (begun : 0 < words_of words global_sequence)
-    (types : Stored) (agrees : (t : _) × (types ≡ stored.Types t) × TypesAgree limits.tags opened (opening_lists limits) t.value)
-    (homes : Homes) (body : Dictionary) (home : get_elem? homes 0 ≡ some (some (Some (stored.Body body)))) (empty : body.map ≡ []) where
-  abbrev start : Core
-  start = record {
-    table = record { words = words; homes = some (Some types) ∷ homes; views = first_view limits ∷ [] };
-    hands = λ id slot. None;
-    ghost = record { history = []; lists = opening_lists limits };
+-- the opening state with these values in its slots
+abbrev opening_core : Limits → Stored → List Slot → Core
+opening_core limits types bodies = record {
+  table = tables.opening opening_words (Some types ∷ bodies) (first_view limits);
+  hands = λ id slot. None;
+  ghost = record { history = []; lists = opening_lists limits };
+}
+
+-- The parts one after another
+module _ (limits : Limits) (room : 4 ≤ limits.place_max) (heads : 0 < limits.head_max)
+    (types : Stored) (agrees : (t : _) × (types ≡ stored.Types t) × TypesAgree limits.tags opening (opening_lists limits) t.value)
+    (body : Dictionary) (empty : body.map ≡ []) (next_body : Dictionary) (bodies : List Slot) where
+  abbrev at_first : LockStart limits
+  at_first = record {
+    words = opening_words;
+    wide = long_enough;
+    free = free_at_first locks.Types;
+    row_free = free_at_first (locks.Row 0);
+    unmade = head_at_first 0;
+    begun = omega arith;
+    types = types;
+    agrees = agrees;
+    body = body;
+    empty = empty;
+    homes = some (Some (stored.Body next_body)) ∷ map some bodies;
   }
 
-  -- The types that are put in
+  abbrev locked : Core
+  locked = (first_part.returns limits at_first).0
 
-  -- the lists once the second pass is split off, and once it is taken in
-  abbrev split_lists : TypeLists
-  split_lists = lists_parted (opening_lists limits)
+  abbrev joined : Stored
+  joined = first_part.types_with limits at_first (first_part.join_lists limits at_first).numbers
 
-  abbrev join_lists : TypeLists
-  join_lists = lists_joined split_lists 1
+  abbrev once_locked : ClassStart
+  once_locked = record {
+    words = locked.table.words;
+    wide = first_part.locks_wide limits at_first;
+    unwritten = first_part.stays limits at_first place refl;
+    free = first_part.type_lock_free limits at_first;
+    keyless = λ i. first_part.stays limits at_first (key 1 i) refl ∙ zero_at_first (key 1 i) (omega arith);
+    types = joined;
+    homes = drop 1 locked.table.homes;
+    first = get_or locked.table.views 0 blank;
+    second = get_or locked.table.views 1 blank;
+    hands = locked.hands;
+    lists = locked.ghost.lists;
+  }
 
-  -- the types with other numbers
-  abbrev types_with : List Bool → Stored
-  types_with numbers = stored.Types (record agrees.0 { value = record agrees.0.value { numbers = numbers } })
+  abbrev classed : Core
+  classed = (second_part.commits limits room once_locked).0
 
-  agree_with : (lists : TypeLists) → lists.pool ≡ (opening_lists limits).pool → lists.limbo ≡ (opening_lists limits).limbo
-      → (t : _) × (types_with lists.numbers ≡ stored.Types t) × TypesAgree limits.tags opened lists t.value
-  agree_with lists pool limbo =
-      let g = agrees.2 in
-      (_, refl, record { stands = record { classes = g.stands.classes; objects = g.stands.objects }; size = g.size; numbers = refl; pool = g.pool ∙ sym pool; limbo = g.limbo ∙ sym limbo })
+  -- a word that neither part changes
+  still : (a : Word) → are_beside a (first_part.all_stores limits at_first) ≡ true → are_beside a (second_part.all_stores limits room once_locked) ≡ true
+      → words_of classed.table.words a ≡ words_of opening_words a
+  still a first second = second_part.class_stays limits room once_locked a second ∙ first_part.stays limits at_first a first
 
-  -- The words: the lock of the types is taken, found held and given back, and then a row is taken and given back
+  abbrev once_classed : ObjectStart
+  once_classed = record {
+    words = classed.table.words;
+    wide = second_part.class_wide limits room once_locked;
+    one = second_part.one limits room once_locked;
+    row_free = second_part.class_stays limits room once_locked (row_lock 0) refl ∙ first_part.row_lock_free limits at_first;
+    unmade = still (head 0) refl refl ∙ head_at_first 0;
+    types = none;
+    body = body;
+    empty = empty;
+    homes = drop 2 classed.table.homes;
+    first = get_or classed.table.views 0 blank;
+    second = get_or classed.table.views 1 blank;
+    third = get_or classed.table.views 2 blank;
+    hands = classed.hands;
+    lists = classed.ghost.lists;
+  }
 
-  abbrev held_words : List ℕ
-  held_words = set words (number_of type_lock) 1
+  abbrev made : Core
+  made = (third_part.gives_row limits room heads once_classed).0
 
-  abbrev missed_words : List ℕ
-  missed_words = set held_words (number_of type_lock) (words_of held_words type_lock)
+  still_more : (a : Word) → are_beside a (first_part.all_stores limits at_first) ≡ true → are_beside a (second_part.all_stores limits room once_locked) ≡ true
+      → are_beside a (third_part.all_stores limits room heads once_classed) ≡ true → words_of made.table.words a ≡ words_of opening_words a
+  still_more a first second third = third_part.object_stays limits room heads once_classed a third ∙ still a first second
 
-  abbrev freed_words : List ℕ
-  freed_words = set missed_words (number_of type_lock) 0
+  abbrev once_made : ValueStart
+  once_made = record {
+    words = made.table.words;
+    wide = third_part.object_wide limits room heads once_classed;
+    two = third_part.two limits room heads once_classed;
+    row_free = third_part.row_free_again limits room heads once_classed;
+    made = third_part.made limits room heads once_classed;
+    next_free = still_more (row_lock 1) refl refl refl ∙ free_at_first (locks.Row 1);
+    unmade = still_more (head 1) refl refl refl ∙ head_at_first 1;
+    valueless = λ i. still_more (inline_value 1 i) refl refl refl ∙ zero_at_first (inline_value 1 i) (omega arith);
+    types = none;
+    row = stored.Body body;
+    next_row = stored.Body next_body;
+    homes = drop 3 made.table.homes;
+    first = get_or made.table.views 0 blank;
+    rowless = refl;
+    second = get_or made.table.views 1 blank;
+    third = get_or made.table.views 2 blank;
+    hands = made.hands;
+    lists = made.ghost.lists;
+  }
 
-  abbrev row_words : List ℕ
-  row_words = set freed_words (number_of (row_lock 0)) 2
+  abbrev last : Core
+  last = (last_part.loads_key limits room heads once_made).0
 
-  abbrev last_words : List ℕ
-  last_words = set row_words (number_of (row_lock 0)) 0
+  abbrev parted : Stored
+  parted = first_part.types_with limits at_first (first_part.split_lists limits at_first).numbers
 
-  held_wide : length held_words ≡ table_words
-  held_wide = wide_still words (number_of type_lock) 1 wide
+  abbrev start : Core
+  start = opening_core limits types (Some (stored.Body body) ∷ Some (stored.Body next_body) ∷ bodies)
 
-  missed_wide : length missed_words ≡ table_words
-  missed_wide = wide_still held_words (number_of type_lock) (words_of held_words type_lock) held_wide
-
-  freed_wide : length freed_words ≡ table_words
-  freed_wide = wide_still missed_words (number_of type_lock) 0 missed_wide
-
-  row_wide : length row_words ≡ table_words
-  row_wide = wide_still freed_words (number_of (row_lock 0)) 2 freed_wide
-
-  busy : words_of held_words type_lock ≡ 1
-  busy = said_here words wide type_lock 1 refl
-
-  -- the lock of the types is free again, and no other word has changed
-  still : (a : Word) → is_same a type_lock ≡ false → words_of freed_words a ≡ words_of words a
-  still a ne = said_else missed_words missed_wide type_lock a 0 refl ne ∙ (said_else held_words held_wide type_lock a (words_of held_words type_lock) refl ne ∙ said_else words wide type_lock a 1 refl ne)
-
-  free_again : words_of last_words type_lock ≡ 0
-  free_again = said_else row_words row_wide (row_lock 0) type_lock 0 refl refl ∙ (said_else freed_words freed_wide (row_lock 0) type_lock 2 refl refl ∙ said_here missed_words missed_wide type_lock 0 refl)
-
-  -- The steps, each from where the one before leads
-
-  abbrev StepFrom : Event → Core → Type 0
-  StepFrom event a = (b : Core) × Goes opened event a b
-
-  abbrev takes_types : StepFrom (lock_take 0 locks.Types) start
-  takes_types = (_, record { view = _; value = types; makes = record { there = refl; live = refl }; asked = refl; is_lock = refl; free = free; home = refl; after = refl })
-
-  abbrev has_types_out : StepFrom (slot_out 0 locks.Types) takes_types.0
-  has_types_out = (_, (types, record { view = _; makes = record { there = refl; live = refl }; is_lock = refl; asked = refl; in_hand = refl; after = refl }))
-
-  abbrev splits_off : StepFrom (split 0) has_types_out.0
-  splits_off = (_, record { view = _; number = 1; makes = record { there = refl; live = refl }; out = refl; asked = record { alone = record { types = refl; rows = λ o. refl }; free = refl }; after = refl })
-
-  abbrev puts_types_in : StepFrom (slot_in 0 locks.Types (types_with split_lists.numbers)) splits_off.0
-  puts_types_in = (_, record { view = _; makes = record { there = refl; live = refl }; is_lock = refl; asked = refl; in_hand = refl; after = refl })
-
-  abbrev finds_held : StepFrom (lock_miss 1 locks.Types) puts_types_in.0
-  finds_held = (_, record { view = _; makes = record { there = refl; live = refl }; is_lock = refl; asked = refl; busy = λ e. let b = busy in absurd (omega arith); after = refl })
-
-  abbrev gives_types : StepFrom (lock_give 0 locks.Types) finds_held.0
-  gives_types = (
-    _,
-    record {
-      view = _;
-      value = types_with split_lists.numbers;
-      back = split_lists;
-      makes = record { there = refl; live = refl };
-      is_lock = refl;
-      in_hand = refl;
-      asked = record { held = refl; returns = refl; agrees = agree_with split_lists refl refl };
-      after = refl;
-    },
-  )
-
-  abbrev takes_row : StepFrom (lock_take 1 (locks.Row 0)) gives_types.0
-  takes_row = (_, record { view = _; value = stored.Body body; makes = record { there = refl; live = refl }; asked = refl; is_lock = refl; free = still (row_lock 0) refl ∙ row_free; home = home; after = refl })
-
-  abbrev gives_row : StepFrom (lock_give 1 (locks.Row 0)) takes_row.0
-  gives_row = (
-    _,
-    record {
-      view = _;
-      value = stored.Body body;
-      back = _;
-      makes = record { there = refl; live = refl };
-      is_lock = refl;
-      in_hand = refl;
-      asked = record { held = refl; returns = refl; agrees = (body, refl, record { full = λ h. absurd (no_dictionary _ (still (head 0) refl ∙ unmade) h); empty = λ _. empty }) };
-      after = refl;
-    },
-  )
-
-  abbrev takes_again : StepFrom (lock_take 0 locks.Types) gives_row.0
-  takes_again = (_, record { view = _; value = types_with split_lists.numbers; makes = record { there = refl; live = refl }; asked = refl; is_lock = refl; free = free_again; home = refl; after = refl })
-
-  abbrev has_out_again : StepFrom (slot_out 0 locks.Types) takes_again.0
-  has_out_again = (_, (types_with split_lists.numbers, record { view = _; makes = record { there = refl; live = refl }; is_lock = refl; asked = refl; in_hand = refl; after = refl }))
-
-  abbrev takes_in : StepFrom (join 0 1) has_out_again.0
-  takes_in = (
-    _,
-    record {
-      view = _;
-      joined = _;
-      makes = record { there = refl; live = refl };
-      apart = λ e. omega arith;
-      ends = record { there = refl; live = refl };
-      out = refl;
-      asked = record {
-        alone = record { types = refl; rows = λ o. refl };
-        child = omega arith;
-        lockless = row_let_go (taken locks.Types (first_view limits) (moment_of start)) (words_of held_words type_lock) (moment_of gives_types.0);
-        closed = refl;
-        offline = refl;
-      };
-      after = refl;
-    },
-  )
-
-  abbrev puts_in_again : StepFrom (slot_in 0 locks.Types (types_with join_lists.numbers)) takes_in.0
-  puts_in_again = (_, record { view = _; makes = record { there = refl; live = refl }; is_lock = refl; asked = refl; in_hand = refl; after = refl })
-
-  abbrev gives_again : StepFrom (lock_give 0 locks.Types) puts_in_again.0
-  gives_again = (
-    _,
-    record {
-      view = _;
-      value = types_with join_lists.numbers;
-      back = join_lists;
-      makes = record { there = refl; live = refl };
-      is_lock = refl;
-      in_hand = refl;
-      asked = record { held = refl; returns = refl; agrees = agree_with join_lists refl refl };
-      after = refl;
-    },
-  )
-
-  -- the global sequence has not changed
-  abbrev closing_words : List ℕ
-  closing_words = set (set last_words (number_of type_lock) 1) (number_of type_lock) 0
-
-  abbrev offline_words : List ℕ
-  offline_words = set closing_words (number_of (own_sequence 0)) 0
-
-  last_wide : length last_words ≡ table_words
-  last_wide = wide_still row_words (number_of (row_lock 0)) 0 row_wide
-
-  taken_wide : length (set last_words (number_of type_lock) 1) ≡ table_words
-  taken_wide = wide_still last_words (number_of type_lock) 1 last_wide
-
-  global_still : words_of offline_words global_sequence ≡ words_of words global_sequence
-  global_still =
-      said_else closing_words (wide_still (set last_words (number_of type_lock) 1) (number_of type_lock) 0 taken_wide) (own_sequence 0) global_sequence 0 refl refl
-      ∙ (said_else (set last_words (number_of type_lock) 1) taken_wide type_lock global_sequence 0 refl refl
-      ∙ (said_else last_words last_wide type_lock global_sequence 1 refl refl
-      ∙ (said_else row_words row_wide (row_lock 0) global_sequence 0 refl refl
-      ∙ (said_else freed_words freed_wide (row_lock 0) global_sequence 2 refl refl ∙ still global_sequence refl))))
-
-  abbrev leaves : StepFrom (go_offline 0) gives_again.0
-  leaves = (_, record { view = _; makes = record { there = refl; live = refl }; asked = record { closed = refl }; after = refl })
-
-  abbrev looks_up : StepFrom (global_load 0) leaves.0
-  looks_up = (_, record { view = _; makes = record { there = refl; live = refl }; after = refl })
-
-  abbrev returns : StepFrom (go_online 0) looks_up.0
-  returns = (_, record { view = _; makes = record { there = refl; live = refl }; asked = record { offline = refl; loaded = subst (λ (n : ℕ). 0 < n) (sym global_still) begun; closed = refl }; after = refl })
-
-  -- those from the seventh on, and all
-  leads_on : Leads opened (drop 6 (some_events (types_with split_lists.numbers) (types_with join_lists.numbers))) gives_types.0 returns.0
-  leads_on = (_, takes_row.1, (_, gives_row.1, (_, takes_again.1, (_, has_out_again.1, (_, takes_in.1, (_, puts_in_again.1, (_, gives_again.1, (_, leaves.1, (_, looks_up.1, (_, returns.1, refl))))))))))
-
-  goes : (x y : Stored) × (b : Core) × Leads opened (some_events x y) start b
-  goes = (
-    types_with split_lists.numbers,
-    types_with join_lists.numbers,
-    returns.0,
-    (_, takes_types.1, (_, has_types_out.1, (_, splits_off.1, (_, puts_types_in.1, (_, finds_held.1, (_, gives_types.1, leads_on)))))),
-  )
+  goes : (x y : Stored) × (b : Core) × Leads opening (some_events x y) start b
+  goes =
+      let lock : Leads opening (lock_events parted joined) start locked = first_part.locks_lead limits at_first in
+      let class : Leads opening class_events locked classed = second_part.class_leads limits room once_locked in
+      let object : Leads opening object_events classed made = third_part.object_leads limits room heads once_classed in
+      let value : Leads opening value_events made last = last_part.value_leads limits room heads once_made in
+      let later = leads_then opening class_events (object_events ++ value_events) locked classed last class (leads_then opening object_events value_events classed made last object value) in
+      (parted, joined, last, leads_then opening (lock_events parted joined) (class_events ++ object_events ++ value_events) start locked last lock later)
 
 pub some_run_goes : SomeRunGoes
-some_run_goes opened limits a o =
+some_run_goes limits a room heads o =
     let there = has_index o.slots_are.bodies 0 (let e = o.slots_are.long in omega arith) in
+    let next = has_index o.slots_are.bodies 1 (let e = o.slots_are.long in omega arith) in
     let body = o.slots_are.empty 0 there.0 there.1 in
-    subst (λ s. (x y : Stored) × (b : Core) × Leads opened (some_events x y) s b) (sym (first_core opened limits a o))
-    (goes opened limits opening_words long_enough (free_at_first locks.Types) (free_at_first (locks.Row 0)) (head_at_first 0) (omega arith) o.slots_are.types o.slots_are.agrees
-    (map some o.slots_are.bodies) body.0 (at_map some o.slots_are.bodies 0 there.0 there.1 ∙ ap (λ x. some (some x)) body.1) body.2)
+    let next_body = o.slots_are.empty 1 next.0 next.1 in
+    let bodies_are : o.slots_are.bodies ≡ Some (stored.Body body.0) ∷ Some (stored.Body next_body.0) ∷ drop 2 o.slots_are.bodies =
+    goes_on o.slots_are.bodies 0 there.0 there.1 ∙ (ap (λ x. x ∷ drop 1 o.slots_are.bodies) body.1
+    ∙ ap (λ xs. Some (stored.Body body.0) ∷ xs) (goes_on o.slots_are.bodies 1 next.0 next.1 ∙ ap (λ x. x ∷ drop 2 o.slots_are.bodies) next_body.1)) in
+    subst (λ s. (x y : Stored) × (b : Core) × Leads opening (some_events x y) s b)
+    (sym (first_core opening limits a o ∙ ap (opening_core limits o.slots_are.types) bodies_are))
+    (goes limits room heads o.slots_are.types o.slots_are.agrees body.0 body.2 next_body.0 (drop 2 o.slots_are.bodies))

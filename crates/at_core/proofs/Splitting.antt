@@ -1,6 +1,6 @@
 -- A new pass splits off.
 use Rattle.std.proofs.Common.{◌≡◌, ◌≢◌, ℕ, zero, suc, ◌*◌, ◌<◌, ◌≤◌, ◌==◌, ◌&&◌, Bool, true, false, true≢false, List, [], ◌∷◌, ◌++◌, length, map, set, get_or, refl, sym, ap, ◌∙◌, subst, arith, length-set}
-use Rattle.std.specs.Prelude.{Some, count_by, sum_by, unwrap_or}
+use Rattle.std.specs.Prelude.{Some, All, count_by, sum_by, unwrap_or, nat_lt, slice_index}
 use Rattle.std.proofs.lemmas.List.Sums.{sum_by_push}
 use mathlib.Core.Option.{some}
 use mathlib.Core.List.{IsPrefix}
@@ -15,15 +15,20 @@ use Rattle.at_types.specs.Tags.{times}
 use Rattle.at_view.specs.declared.view.TypeLists.{TypeLists}
 use Rattle.at_view.specs.declared.view.View.{View}
 use Rattle.at_view.specs.Views.{blank, no_hold}
-use Rattle.at_view.specs.Words.{Words, place}
+use Rattle.at_view.specs.Counts.{passes}
+use Rattle.at_view.specs.Words.{Words, place, global_sequence}
 use Rattle.at_core.specs.declared.lock.Lock as lock
 use Rattle.at_core.specs.declared.lock.Lock.TheVariants as locks
+use Rattle.at_core.specs.Inline.{HaveGrown}
+use Rattle.at_core.specs.Looks.{keys_at, IsBacked}
 use Rattle.at_core.specs.Locks.{lock_word, slot_of, hold_of}
-use Rattle.at_core.specs.Reads.{PastRead, past_read, fresh_read, KinRead, kin_read, NumberRead, number_read, HolderRead, holder_read, kept_read, TypesRead, types_read, row_read, join_read, limit_read}
-use Rattle.at_core.specs.Rule.{Homes, Each, weight, is_born, has_number, HistoryRule, RoomRule, KinRule, LockRule, NumberRule, SlotRule, KeptBy, TypesCopied, TypesRule, Ghost, Parts, IsLock, heads_of, types_words, row_words, shape_under}
+use Rattle.at_core.specs.Reads.{PastRead, past_read, fresh_read, KinRead, kin_read, NumberRead, number_read, HolderRead, holder_read, kept_read, TypesRead, types_read, row_read, open_read, known_read, looks_read, SequenceRead, sequence_read, join_read, limit_read}
+use Rattle.at_core.specs.Rule.{Homes, Each, weight, is_born, has_number, HistoryRule, RoomRule, KinRule, LockRule, NumberRule, SlotRule, KeptBy, TypesCopied, TypesRule, SequenceRule, Ghost, Parts, IsLock, heads_of, keys_of, own_sequences_of, types_words, row_words, shape_under}
 use Rattle.at_core.specs.Steps.{MaySplit, next_number, lists_parted, parted, child}
-use Rattle.at_core.proofs.Lists.{each_set, each_other, each_snoc, sum_set, sum_le, map_set, map_same, map_snoc, map_back}
-use Rattle.at_core.proofs.Counts.{at_most_one, weight_other, times_cons, IsFree, next_is_free, weight_set, count_set_free}
+use Rattle.at_core.proofs.Lists.{each_set, each_other, each_snoc, sum_set, sum_has, sum_le, map_set, map_same, map_snoc, map_back}
+use Rattle.at_core.proofs.HeadFrames.{none_known, none_backed}
+use Rattle.at_core.proofs.SequenceSteps.{sequence_grown}
+use Rattle.at_core.proofs.Counts.{at_most_one, weight_same, weight_other, times_cons, IsFree, next_is_free, weight_set, count_set_free}
 use Rattle.at_core.proofs.Parts.{seen_begins, holder_is}
 
 -- nobody has a child or a trail, and nobody was born, of a birth to come
@@ -178,6 +183,20 @@ module _ (opened : World) (limits : Limits) (words : Words) (homes : Homes) (vie
           let x = map_back types_read views j u e in
           absurd (ne (holder_is locks.Types (words (lock_word locks.Types)) views id v (p.locks locks.Types) at may.alone.types j x.0 x.1 (ap (λ (r : TypesRead). r.held) x.2 ∙ on)))
 
+  -- nobody has the number
+  free_number : (j : ℕ) (u : SequenceRead) → get_elem? (map sequence_read views) j ≡ some u → u.live ≡ true → u.number ≢ number
+  free_number j u e lives same =
+      let x = map_back sequence_read views j u e in
+      let free = next_is_free g.lists.numbers number (ap (λ (ls : TypeLists). next_number ls.numbers) (sym lists_are) ∙ may.free) in
+      let has = sum_has (λ (k : NumberRead). weight (has_number number k)) (map number_read views) j (number_read x.0) (at_map number_read views j x.0 x.1) in
+      let is_live : x.0.who.live ≡ true = ap (λ (r : SequenceRead). r.live) x.2 ∙ lives in
+      let is_same : x.0.who.number ≡ number = ap (λ (r : SequenceRead). r.number) x.2 ∙ same in
+      let one : weight (has_number number (number_read x.0)) ≡ 1 = ap (λ (t : Bool × ℕ). weight (t.0 && (t.1 == number))) (λ i. (is_live i, is_same i)) ∙ weight_same number in
+      let was : weight (get_or g.lists.numbers number false) ≡ 1 = ap weight free.free in
+      let r = p.numbers.each number in
+      let m = at_most_one (nat_lt number passes) in
+      absurd (omega arith)
+
   pub split_keeps : Parts opened limits words homes views_parted ghost_parted
   split_keeps = record {
     history = grown past_read (HistoryRule opened (words place) g.history) refl (history_grown (past_read c) refl (seen_begins p id v at));
@@ -191,8 +210,21 @@ module _ (opened : World) (limits : Limits) (words : Words) (homes : Homes) (vie
     numbers = grown number_read (NumberRule (lists_parted g.lists).numbers) refl
         (subst (λ (ns : List Bool). NumberRule (lists_parted g.lists).numbers (map number_read views ++ record { live = true; number = unwrap_or (next_number ns) 0 } ∷ [])) (sym (ap (λ (ls : TypeLists). ls.numbers) lists_are)) numbers_grown);
     slots = slots_after;
-    rows_are = p.rows_are;
-    sequence = p.sequence;
+    headed = record {
+      heads_are = p.headed.heads_are;
+      open_are = λ o odd. each_grown (open_read o) _ (p.headed.open_are o odd)
+          (p.headed.open_are o odd id (open_read o v) (at_map (open_read o) views id v at))
+          (λ j row types found. absurd (true≢false (sym row)));
+      rows_are = p.headed.rows_are;
+      keys = p.headed.keys;
+      cells = p.headed.cells;
+      known = each_grown known_read (λ i known. (k : ℕ) → HaveGrown (slice_index (keys_at k known)) (keys_of words k)) p.headed.known (p.headed.known id v.known (at_map known_read views id v at)) (λ j. none_known (keys_of words) [] refl);
+      looks = each_grown looks_read (λ i looks. All (λ look. IsBacked opened (heads_of words look.object) (keys_of words) g.history look) looks) p.headed.looks (p.headed.looks id v.looks (at_map looks_read views id v at))
+          (λ j. none_backed opened (heads_of words) (keys_of words) g.history [] refl);
+    };
+    sequence = grown sequence_read (SequenceRule (words global_sequence) (own_sequences_of words)) refl
+        (sequence_grown (words global_sequence) (own_sequences_of words) (map sequence_read views) p.sequence (sequence_read c) refl refl
+        (ap (own_sequences_of words) (ap (λ n. unwrap_or n 0) may.free) ∙ p.sequence.spare number free_number));
     kept = λ k. each_grown (kept_read k) (λ i u. u.hold.held ≡ true → KeptBy opened k g.history u) (p.kept k)
         (let same : kept_read k m ≡ kept_read k v = λ i. record { hold = hold_parted k i; seen = v.history.seen; own = v.history.own } in
         subst (λ u. u.hold.held ≡ true → KeptBy opened k g.history u) (sym same) (p.kept k id (kept_read k v) (at_map (kept_read k) views id v at)))

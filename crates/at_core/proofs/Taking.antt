@@ -1,6 +1,6 @@
 -- A lock is taken, or found held.
-use Rattle.std.proofs.Common.{◌≡◌, ◌≢◌, ℕ, suc, ◌<◌, true, List, [], ◌∷◌, ◌++◌, length, map, set, refl, sym, ap, ◌∙◌, subst, ⊎_elim, arith, length-append}
-use Rattle.std.specs.Prelude.{Some}
+use Rattle.std.proofs.Common.{◌≡◌, ◌≢◌, ℕ, suc, ◌<◌, true, false, true≢false, List, [], ◌∷◌, ◌++◌, length, map, set, refl, sym, ap, ◌∙◌, subst, ⊎_elim, arith, length-append}
+use Rattle.std.specs.Prelude.{Some, slice_index}
 use mathlib.Core.Option.{some, none}
 use lib.ListN.{get_elem?}
 use Rattle.atomic_table.proofs.Lists.{at_map, set_here, set_else}
@@ -11,18 +11,23 @@ use Rattle.at_model.specs.History.{replay}
 use Rattle.at_view.specs.declared.mark.Mark.{Mark}
 use Rattle.at_view.specs.declared.mark.StepKind.TheVariants as kinds
 use Rattle.at_view.specs.declared.view.View.{View}
-use Rattle.at_view.specs.Words.{Words, updated, place}
+use Rattle.at_view.specs.Counts.{keys}
+use Rattle.at_view.specs.Words.{Words, updated, place, head, global_sequence}
 use Rattle.at_core.specs.declared.lock.Lock as lock
 use Rattle.at_core.specs.declared.lock.Lock.TheVariants as locks
-use Rattle.at_core.specs.Locks.{lock_word, slot_of, hold_of, copy_at, IsUnchanged, Protects, Excludes}
-use Rattle.at_core.specs.Reads.{past_read, fresh_read, kin_read, number_read, holder_read, kept_read, types_read, row_read, join_read, limit_read}
-use Rattle.at_core.specs.Rule.{Homes, HistoryRule, RoomRule, KinRule, LockRule, NumberRule, SlotRule, KeptBy, KeptRule, TypesCopied, TypesRule, RowRule, JoinRule, LimitRule, Ghost, Parts, IsLock, RowsAre, heads_of, types_words, row_words, shape_under}
-use Rattle.at_core.specs.Steps.{Moment, mark, taken, missed}
-use Rattle.at_core.proofs.Lists.{each_set}
+use Rattle.at_core.specs.Heads.{class_of, IsOpened}
+use Rattle.at_core.specs.Inline.{HaveGrown}
+use Rattle.at_core.specs.Looks.{keys_at}
+use Rattle.at_core.specs.Locks.{lock_word, slot_of, hold_of, holds, copy_at, IsUnchanged, Protects, Excludes}
+use Rattle.at_core.specs.Reads.{past_read, fresh_read, kin_read, number_read, holder_read, kept_read, types_read, row_read, open_read, known_read, sequence_read, join_read, limit_read}
+use Rattle.at_core.specs.Rule.{Homes, HistoryRule, RoomRule, KinRule, LockRule, NumberRule, SlotRule, KeptBy, KeptRule, TypesCopied, TypesRule, RowRule, JoinRule, LimitRule, Ghost, Parts, IsLock, OpenRule, KnownRule, SequenceRule, HeadParts, heads_of, row_locks_of, keys_of, values_of, own_sequences_of, types_words, row_words, shape_under}
+use Rattle.at_core.specs.Steps.{Moment, mark, keys_of_class, taken, missed}
+use Rattle.at_core.proofs.Lists.{each_set, each_one}
 use Rattle.at_core.proofs.Prefixes.{prefix_self, prefix_trans, prefix_length, prefix_whole}
 use Rattle.at_core.proofs.WordLemmas.{updated_here}
-use Rattle.at_core.proofs.LockLemmas.{lock_cases, slot_apart, other_word, same_place, same_heads, same_global, same_types, same_row, hold_marked, hold_taken, hold_beside, copy_taken, copy_beside}
-use Rattle.at_core.proofs.Parts.{left_alone, changed, history_seen, lock_taken, seen_begins, spent_set, alike_keeps}
+use Rattle.at_core.proofs.LockLemmas.{lock_cases, slot_apart, other_word, same_place, same_heads, same_keys, same_values, same_global, same_sequences, same_types, same_row, hold_marked, hold_taken, hold_beside, copy_taken, copy_beside}
+use Rattle.at_core.proofs.HeadFrames.{listed_grown, known_more, heads_locked, open_changed}
+use Rattle.at_core.proofs.Parts.{left_alone, changed, history_seen, lock_taken, seen_begins, spent_set, leaves_all, known_left, looks_left, sequence_left, alike_keeps}
 
 -- Whoever has seen all of the history: nothing comes after it
 
@@ -46,8 +51,12 @@ module _ (opened : World) (limits : Limits) (words : Words) (homes : Homes) (vie
 
   -- a lock is found held
   pub miss_keeps : (l : lock.Lock) (n : ℕ) → Parts opened limits words homes (set views id (missed l v n)) g
-  miss_keeps l n = alike_keeps opened limits words homes views g id v (missed l v n) p at
-      (record { past = refl; fresh = refl; kin = refl; number = refl; holder = λ k i. record { number = v.who.number; held = (hold_marked k v (miss l n) i).held }; kept = λ k i. record { hold = hold_marked k v (miss l n) i; seen = v.history.seen; own = v.history.own }; types = refl; row = λ o. refl; joins = refl; limited = refl }) live
+  miss_keeps l n = alike_keeps opened limits words words homes views g id v (missed l v n) p at
+      (record { past = refl; fresh = refl; kin = refl; number = refl; holder = λ k i. record { number = v.who.number; held = (hold_marked k v (miss l n) i).held }; kept = λ k i. record { hold = hold_marked k v (miss l n) i; seen = v.history.seen; own = v.history.own }; types = refl; row = λ o. refl; joins = refl; limited = refl })
+      live (leaves_all words)
+      (known_left views id v (missed l v n) at (keys_of words) refl p.headed.known)
+      (looks_left views id v (missed l v n) at opened (heads_of words) (keys_of words) g.history refl p.headed.looks)
+      (sequence_left views id v (missed l v n) at (words global_sequence) (own_sequences_of words) refl p.sequence)
 
   abbrev pub now : Moment
   now = record { history = g.history; lists = g.lists; words = words }
@@ -150,6 +159,45 @@ module _ (opened : World) (limits : Limits) (words : Words) (homes : Homes) (vie
         (λ (ne : locks.Row o ≢ l). left_alone (row_read o) (RowRule (row_words words o)) views id v w at (row_same o ne) (p.rows o))
         (lock_cases (locks.Row o) l))
 
+    -- the lock of a row whose head is open stands
+    still_owned : (o : ℕ) → IsOpened (heads_of words o) → 0 < row_locks_of after o
+    still_owned o odd = ⊎_elim
+        (λ (e : locks.Row o ≡ l). let here : after (lock_word (locks.Row o)) ≡ suc v.who.number = subst (λ (k : lock.Lock). after (lock_word k) ≡ suc v.who.number) (sym e) (updated_here words (lock_word l) (suc v.who.number)) in omega arith)
+        (λ (ne : locks.Row o ≢ l). let same : after (lock_word (locks.Row o)) ≡ words (lock_word (locks.Row o)) = other_word words (locks.Row o) l (suc v.who.number) ne in let was = (p.headed.heads_are o).owned odd in omega arith)
+        (lock_cases (locks.Row o) l)
+
+    -- the pass says of a head that was open before what it said
+    open_after : (o : ℕ) → IsOpened (heads_of words o) → holds (locks.Row o) w ≡ true → holds locks.Types w ≡ false → OpenRule (replay opened g.history) o (heads_of words o) (open_read o w ∷ [])
+    open_after o odd row types = ⊎_elim
+        (λ (e : locks.Row o ≡ l). let was = (p.headed.heads_are o).owned odd in let z : words (lock_word (locks.Row o)) ≡ 0 = subst (λ (k : lock.Lock). words (lock_word k) ≡ 0) (sym e) free in absurd (omega arith))
+        (λ (ne : locks.Row o ≢ l). ⊎_elim
+        (λ (e : locks.Types ≡ l). absurd (true≢false (sym (subst (λ (k : lock.Lock). holds k w ≡ true) (sym e) (ap (λ h. h.held) (hold_taken l v now))) ∙ types)))
+        (λ (no : locks.Types ≢ l).
+        let same : open_read o w ≡ open_read o v = λ i. record { row = (hold_beside (locks.Row o) l v now ne i).held; types = (hold_beside locks.Types l v now no i).held } in
+        subst (λ r. OpenRule (replay opened g.history) o (heads_of words o) (r ∷ [])) (sym same) (λ odd'. each_one _ (open_read o v) (p.headed.open_are o odd' id (open_read o v) (at_map (open_read o) views id v at))))
+        (lock_cases locks.Types l))
+        (lock_cases (locks.Row o) l)
+
+    -- with a row the keys of the class are known
+    known_after : (k : lock.Lock) → l ≡ k → (c : ℕ) → HaveGrown (slice_index (keys_at c w.known)) (keys_of words c)
+    known_after locks.Types e = subst (λ (j : lock.Lock). (c : ℕ) → HaveGrown (slice_index (keys_at c (taken j v now).known)) (keys_of words c)) (sym e) (p.headed.known id v.known (at_map known_read views id v at))
+    known_after (locks.Row o) e = subst (λ (j : lock.Lock). (c : ℕ) → HaveGrown (slice_index (keys_at c (taken j v now).known)) (keys_of words c)) (sym e)
+        (known_more (keys_of words) (keys_of_class words (class_of (words (head o)))) v.known (listed_grown keys (keys_of words (class_of (words (head o))))) (p.headed.known id v.known (at_map known_read views id v at)))
+
+    headed_after : HeadParts opened (heads_of after) (row_locks_of after) (keys_of after) (values_of after) g.history views_after
+    headed_after =
+        let Q : (ℕ → ℕ) × (ℕ → ℕ → ℕ) × (ℕ → ℕ → ℕ) → Type 0 = λ x. HeadParts opened x.0 (row_locks_of after) x.1 x.2 g.history views_after in
+        subst Q (λ i. (sym (same_heads words l (suc v.who.number)) i, sym (same_keys words l (suc v.who.number)) i, sym (same_values words l (suc v.who.number)) i))
+        (record {
+          heads_are = heads_locked opened (heads_of words) (row_locks_of words) (row_locks_of after) (keys_of words) (values_of words) g.history views p.headed still_owned;
+          open_are = λ o. open_changed opened (heads_of words) g.history views id w o (p.headed.open_are o) (open_after o);
+          rows_are = p.headed.rows_are;
+          keys = p.headed.keys;
+          cells = p.headed.cells;
+          known = changed known_read (KnownRule (keys_of words)) views id w (each_set (λ i known. (c : ℕ) → HaveGrown (slice_index (keys_at c known)) (keys_of words c)) (map known_read views) id w.known p.headed.known (known_after l refl));
+          looks = looks_left views id v w at opened (heads_of words) (keys_of words) g.history refl p.headed.looks;
+        })
+
     pub take_keeps : Parts opened limits after homes_after views_after g
     take_keeps =
         let seen = seen_begins p id v at in
@@ -164,8 +212,10 @@ module _ (opened : World) (limits : Limits) (words : Words) (homes : Homes) (vie
           locks = locks_after;
           numbers = left_alone number_read (NumberRule g.lists.numbers) views id v w at refl p.numbers;
           slots = slots_after;
-          rows_are = subst (λ heads. RowsAre heads) (sym (same_heads words l (suc v.who.number))) p.rows_are;
-          sequence = subst (λ (n : ℕ). 0 < n) (sym (same_global words l (suc v.who.number))) p.sequence;
+          headed = headed_after;
+          sequence =
+              let Q : ℕ × (ℕ → ℕ) → Type 0 = λ x. SequenceRule x.0 x.1 (map sequence_read views_after) in
+              subst Q (λ i. (sym (same_global words l (suc v.who.number)) i, sym (same_sequences words l (suc v.who.number)) i)) (sequence_left views id v w at (words global_sequence) (own_sequences_of words) refl p.sequence);
           kept = kept_after;
           types = types_after l refl;
           rows = rows_after;

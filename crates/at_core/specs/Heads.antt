@@ -1,7 +1,7 @@
 -- The head of an object. Its lowest bits are the sequence, odd while the object is being written; then come the class, the
 -- layout and the dictionary row.
-use Rattle.std.specs.Prelude.{ℕ, ◌≡◌, ◌+◌, ◌^◌, ◌/◌, ◌%◌}
-use Rattle.at_value.specs.Widths.{class_bits, object_bits}
+use Rattle.std.specs.Prelude.{ℕ, ◌≡◌, ◌<◌, ◌≤◌, ◌+◌, ◌^◌, ◌/◌, ◌%◌}
+use Rattle.at_value.specs.Widths.{classes, class_bits, object_bits}
 
 abbrev pub sequence_bits : ℕ
 sequence_bits = 40
@@ -34,5 +34,23 @@ shape_of word = record {
   row = word / 2 ^ (sequence_bits + class_bits + layout_bits) % 2 ^ object_bits;
 }
 
+-- a head has the number of a class and one of the layouts, open or not
+abbrev pub IsHead : ℕ → Type 0
+IsHead word = (class_of word < classes) × ((shape_of word).layout ≤ dictionary)
+
 abbrev pub HasDictionary : Shape → Type 0
 HasDictionary shape = shape.layout ≡ dictionary
+
+abbrev pub sequence_of : ℕ → ℕ
+sequence_of word = word % 2 ^ sequence_bits
+
+-- even while nobody writes the object
+abbrev pub IsWhole : ℕ → Type 0
+IsWhole word = word % 2 ≡ 0
+
+abbrev pub IsOpened : ℕ → Type 0
+IsOpened word = word % 2 ≡ 1
+
+-- whole, and its values stand in the inline words
+abbrev pub IsInline : ℕ → Type 0
+IsInline word = IsWhole word × ((shape_of word).layout ≡ inline)

@@ -1,9 +1,16 @@
 pub mod Heads
+pub mod Inline
+pub mod Looks
 pub mod Locks
+pub mod Writes
 pub mod Reads
 pub mod Rule
 pub mod Steps
+pub mod PlaceSteps
+pub mod HeadSteps
 pub mod Plays
+pub mod PlacePlays
+pub mod HeadPlays
 pub mod Runs
 pub mod Opened
 pub mod Passes

@@ -60,11 +60,6 @@ abbrev pub Protects : World → lock.Lock → List op.Op → List op.Op → Type
 Protects opened l prefix history =
     (point : List op.Op) → IsPrefix prefix point → IsPrefix point history → IsUnchanged l (replay opened prefix) (replay opened point)
 
--- each lock that is held has kept what it protects: it is as it was when the pass took the lock, or as its own last write left it
-abbrev pub AreKept : World → View → Type 0
-AreKept opened v = (l : lock.Lock) → holds l v ≡ true
-    → IsPrefix (hold_of l v).since v.history.seen × IsUnchanged l (replay opened (hold_of l v).since) (replay opened v.history.seen)
-
 -- No write after so many, but those at the own places, has the object among its rows.
 abbrev pub AvoidsRow : World → ℕ → List ℕ → List op.Op → ℕ → Type 0
 AvoidsRow opened entered own history o =
@@ -75,3 +70,22 @@ AvoidsRow opened entered own history o =
 abbrev pub Excludes : World → lock.Lock → ℕ → List ℕ → List op.Op → Type 0
 Excludes opened locks.Types entered own history = Unit {0}
 Excludes opened (locks.Row o) entered own history = AvoidsRow opened entered own history o
+
+-- What a lock that is held has kept up to a point of the history: what it protects is as it was when the pass took the lock, or
+-- as its own last write left it; and no other pass has written the object of a row.
+pub record IsKeptAt (opened : World) (l : lock.Lock) (v : View) (history : List op.Op) : Type 0 where
+  pub begun : IsPrefix (hold_of l v).since history
+  pub came : (hold_of l v).entered ≤ length (hold_of l v).since
+  pub unchanged : IsUnchanged l (replay opened (hold_of l v).since) (replay opened history)
+  pub excludes : Excludes opened l (hold_of l v).entered v.history.own history
+
+-- up to all that the pass has seen
+abbrev pub IsKept : World → lock.Lock → View → Type 0
+IsKept opened l v = IsKeptAt opened l v v.history.seen
+
+-- so it is with each lock that is held
+abbrev pub AreKeptAt : World → View → List op.Op → Type 0
+AreKeptAt opened v history = (l : lock.Lock) → holds l v ≡ true → IsKeptAt opened l v history
+
+abbrev pub AreKept : World → View → Type 0
+AreKept opened v = AreKeptAt opened v v.history.seen

@@ -4,6 +4,8 @@ use Rattle.std.specs.Prelude.{ℕ, ◌==◌, Bool, List, [], ◌∷◌, map, Opt
 use Rattle.at_value.specs.declared.limits.Limits.{Limits}
 use Rattle.at_value.specs.declared.operation.Op as op
 use Rattle.at_view.specs.declared.mark.Trail.{Trail}
+use Rattle.at_view.specs.declared.view.ClassKeys.{ClassKeys}
+use Rattle.at_view.specs.declared.view.HeadLook.{HeadLook}
 use Rattle.at_view.specs.declared.view.Hold.{Hold}
 use Rattle.at_view.specs.declared.view.JoinView.{JoinView}
 use Rattle.at_view.specs.declared.view.TypeLists.{TypeLists}
@@ -81,6 +83,31 @@ pub record RowRead : Type 0 where
 
 abbrev pub row_read : ℕ → View → RowRead
 row_read o v = record { held = (hold_of (locks.Row o) v).held; words = copy_at o v.rows }
+
+-- of a row whose head may be open: whether the view has it, and the types
+pub record OpenRead : Type 0 where
+  pub row : Bool
+  pub types : Bool
+
+abbrev pub open_read : ℕ → View → OpenRead
+open_read o v = record { row = holds (locks.Row o) v; types = holds locks.Types v }
+
+-- of keys, and of heads that were loaded
+abbrev pub known_read : View → List ClassKeys
+known_read v = v.known
+
+abbrev pub looks_read : View → List HeadLook
+looks_read v = v.looks
+
+-- of sequences: who it is, whether it is online, and what it loaded of the global one
+pub record SequenceRead : Type 0 where
+  pub live : Bool
+  pub number : ℕ
+  pub online : Bool
+  pub global : ℕ
+
+abbrev pub sequence_read : View → SequenceRead
+sequence_read v = record { live = v.who.live; number = v.who.number; online = v.tags.online; global = v.tags.global }
 
 -- of joins
 abbrev pub join_read : View → JoinView

@@ -1,7 +1,7 @@
 -- The rule of the shared table: what is true of its words, of the values at home and of all views between any two steps.
 -- Each part is a definition of its own, over what it reads and no more. Beside the state stands what exists in proofs
 -- alone: the history, and the lists that the types have or the holder of their lock.
-use Rattle.std.specs.Prelude.{ℕ, zero, suc, ◌≡◌, ◌+◌, ◌<◌, ◌≤◌, ◌==◌, ◌&&◌, ◌^◌, nat_lt, Bool, true, false, IsTrue, List, [], ◌∷◌, length, map, count_by, sum_by, Option, Some, slice_index_or, if◌then◌else◌}
+use Rattle.std.specs.Prelude.{ℕ, zero, suc, ◌≡◌, ◌≢◌, ◌+◌, ◌<◌, ◌≤◌, ◌==◌, ◌&&◌, ◌^◌, nat_lt, Bool, true, false, IsTrue, List, [], ◌∷◌, length, map, count_by, sum_by, All, Option, Some, slice_index, slice_index_or, slice_get, if◌then◌else◌}
 use mathlib.Core.Option.{some, none}
 use mathlib.Core.Option as maybe
 use mathlib.Core.List.{IsPrefix}
@@ -10,12 +10,15 @@ use Rattle.atomic_table.specs.Table.{State}
 use Rattle.at_value.specs.Widths.{classes, objects}
 use Rattle.at_value.specs.declared.limits.Limits.{Limits}
 use Rattle.at_value.specs.declared.operation.Op as op
-use Rattle.at_model.specs.World.{World}
+use Rattle.at_model.specs.declared.rows.Object.{Object}
+use Rattle.at_model.specs.World.{World, IsWellFormed}
 use Rattle.at_model.specs.History.{replay, IsProper}
 use Rattle.at_dict.specs.Dictionary.{Dictionary}
 use Rattle.at_types.specs.declared.tags.LimboRow.{LimboRow}
 use Rattle.at_types.specs.Types.{TypesState, StandsFor}
 use Rattle.at_types.specs.Tags.{times}
+use Rattle.at_view.specs.declared.view.ClassKeys.{ClassKeys}
+use Rattle.at_view.specs.declared.view.HeadLook.{HeadLook}
 use Rattle.at_view.specs.declared.view.JoinView.{JoinView}
 use Rattle.at_view.specs.declared.view.LimboTag.{LimboTag}
 use Rattle.at_view.specs.declared.view.TypeLists.{TypeLists}
@@ -24,14 +27,16 @@ use Rattle.at_view.specs.declared.view.RowWords.{RowWords}
 use Rattle.at_view.specs.declared.view.View.{View}
 use Rattle.at_view.specs.Counts.{passes, keys, inline_values}
 use Rattle.at_view.specs.Views.{blank}
-use Rattle.at_view.specs.Words.{Words, table_words, number_of, is_there, place, head, tag, key, inline_value, global_sequence}
+use Rattle.at_view.specs.Words.{Words, table_words, number_of, is_there, place, head, tag, key, inline_value, row_lock, global_sequence, own_sequence}
 use Rattle.at_core.specs.declared.lock.Lock as lock
 use Rattle.at_core.specs.declared.lock.Lock.TheVariants as locks
 use Rattle.at_core.specs.declared.stored.Stored.{Stored}
 use Rattle.at_core.specs.declared.stored.Stored.TheVariants as stored
-use Rattle.at_core.specs.Heads.{Shape, shape_of, HasDictionary}
+use Rattle.at_core.specs.Heads.{Shape, shape_of, class_of, HasDictionary, IsHead, IsWhole, IsOpened}
+use Rattle.at_core.specs.Inline.{AreKeys, HaveGrown, IsCell, IsHeadOf}
+use Rattle.at_core.specs.Looks.{keys_at, IsBacked}
 use Rattle.at_core.specs.Locks.{lock_word, slot_of, Protects, Excludes}
-use Rattle.at_core.specs.Reads.{PastRead, past_read, fresh_read, KinRead, kin_read, NumberRead, number_read, HolderRead, holder_read, KeptRead, kept_read, TypesRead, types_read, RowRead, row_read, join_read, LimitRead, limit_read}
+use Rattle.at_core.specs.Reads.{PastRead, past_read, fresh_read, KinRead, kin_read, NumberRead, number_read, HolderRead, holder_read, KeptRead, kept_read, TypesRead, types_read, RowRead, row_read, OpenRead, open_read, known_read, looks_read, SequenceRead, sequence_read, join_read, LimitRead, limit_read}
 
 -- a slot: none while the pass that has it out has its value too
 abbrev pub Slot : Type 0
@@ -140,6 +145,25 @@ pub record SlotRule (limits : Limits) (w : World) (lists : TypeLists) (shape : S
 abbrev pub RowsAre : (ℕ → ℕ) → Type 0
 RowsAre heads = (o : ℕ) → HasDictionary (shape_of (heads o)) → HasDictionary (shape_of (heads (shape_of (heads o)).row))
 
+-- A head has a class and a layout. One that is whole says what its object is, with the keys of its class and its inline values; a row whose head is open is held.
+pub record HeadRule (w : World) (o row word : ℕ) (keys_are : ℕ → ℕ → ℕ) (values : ℕ → ℕ) : Type 0 where
+  pub is : IsHead word
+  pub says : IsWhole word → IsHeadOf w o word keys_are values
+  pub owned : IsOpened word → 0 < row
+
+-- A head that is open says the class of its object, if it is made, where who holds the row doesn't hold the lock of the types.
+abbrev pub OpenRule : World → ℕ → ℕ → List OpenRead → Type 0
+OpenRule w o word views = IsOpened word
+    → Each (λ i v. v.row ≡ true → v.types ≡ false → (found : Object) → slice_get w.objects o ≡ Some found → found.class ≡ class_of word) views
+
+-- keys that a view knows are among those that there are
+abbrev pub KnownRule : (ℕ → ℕ → ℕ) → List (List ClassKeys) → Type 0
+KnownRule keys_are views = Each (λ i known. (c : ℕ) → HaveGrown (slice_index (keys_at c known)) (keys_are c)) views
+
+-- what was loaded with a head says what it says as long as the head is the same
+abbrev pub LookRule : World → (ℕ → ℕ) → (ℕ → ℕ → ℕ) → List op.Op → List (List HeadLook) → Type 0
+LookRule opened heads keys_are history views = Each (λ i looks. All (λ look. IsBacked opened (heads look.object) keys_are history look) looks) views
+
 -- Base 4: what held locks keep
 
 -- What the lock protects is as it was when the pass took it, or as its own last write left it, which it has seen; and no other
@@ -187,9 +211,14 @@ RowRule words views = Each (λ i v. v.held ≡ true → v.words ≡ words) views
 abbrev pub JoinRule : List op.Op → List JoinView → Type 0
 JoinRule history views = Each (λ i v. IsPrefix v.first history × IsPrefix v.second history) views
 
--- the global sequence has begun, so that no pass that is online has 0 of it
-abbrev pub SequenceRule : ℕ → Type 0
-SequenceRule global = 0 < global
+-- The global sequence has begun, and is no less than what any pass loaded of it. The own sequence of a live pass is 0 where it is
+-- offline, and else not 0 and no more than the global one. That of a number of no live pass is 0.
+pub record SequenceRule (global : ℕ) (own : ℕ → ℕ) (views : List SequenceRead) : Type 0 where
+  pub begun : 0 < global
+  pub loaded : Each (λ i v. v.global ≤ global) views
+  pub offline : Each (λ i v. v.live ≡ true → v.online ≡ false → own v.number ≡ 0) views
+  pub online : Each (λ i v. v.live ≡ true → v.online ≡ true → (0 < own v.number) × (own v.number ≤ global)) views
+  pub spare : (q : ℕ) → Each (λ i v. v.live ≡ true → v.number ≢ q) views → own q ≡ 0
 
 -- a live view has the limits of the table
 abbrev pub LimitRule : Limits → List LimitRead → Type 0
@@ -213,11 +242,33 @@ words_of words a = if is_there a then slice_index_or words (number_of a) 0 else 
 abbrev pub heads_of : Words → ℕ → ℕ
 heads_of words o = words (head o)
 
+abbrev pub keys_of : Words → ℕ → ℕ → ℕ
+keys_of words c i = words (key c i)
+
+abbrev pub values_of : Words → ℕ → ℕ → ℕ
+values_of words o i = words (inline_value o i)
+
+abbrev pub row_locks_of : Words → ℕ → ℕ
+row_locks_of words o = words (row_lock o)
+
+abbrev pub own_sequences_of : Words → ℕ → ℕ
+own_sequences_of words q = words (own_sequence q)
+
 abbrev pub types_words : Words → TypesWords
-types_words words = types_copied (λ c. words (tag c)) (λ c i. words (key c i)) (words global_sequence)
+types_words words = types_copied (λ c. words (tag c)) (keys_of words) (words global_sequence)
 
 abbrev pub row_words : Words → ℕ → RowWords
-row_words words o = row_copied (words (head o)) (λ i. words (inline_value o i))
+row_words words o = row_copied (words (head o)) (values_of words o)
+
+-- what heads, keys and inline values are
+pub record HeadParts (opened : World) (heads rows : ℕ → ℕ) (keys_are values_are : ℕ → ℕ → ℕ) (history : List op.Op) (views : List View) : Type 0 where
+  pub heads_are : (o : ℕ) → HeadRule (replay opened history) o (rows o) (heads o) keys_are (values_are o)
+  pub open_are : (o : ℕ) → OpenRule (replay opened history) o (heads o) (map (open_read o) views)
+  pub rows_are : RowsAre heads
+  pub keys : (c : ℕ) → AreKeys (keys_are c)
+  pub cells : (o i : ℕ) → IsCell (values_are o i)
+  pub known : KnownRule keys_are (map known_read views)
+  pub looks : LookRule opened heads keys_are history (map looks_read views)
 
 pub record Parts (opened : World) (limits : Limits) (words : Words) (homes : Homes) (views : List View) (g : Ghost) : Type 0 where
   -- base 1
@@ -229,14 +280,14 @@ pub record Parts (opened : World) (limits : Limits) (words : Words) (homes : Hom
   pub numbers : NumberRule g.lists.numbers (map number_read views)
   -- base 3
   pub slots : (l : lock.Lock) → IsLock l → SlotRule limits (replay opened g.history) g.lists (shape_under (heads_of words) l) l (words (lock_word l)) (get_elem? homes (slot_of l))
-  pub rows_are : RowsAre (heads_of words)
+  pub headed : HeadParts opened (heads_of words) (row_locks_of words) (keys_of words) (values_of words) g.history views
   -- base 4
   pub kept : (l : lock.Lock) → KeptRule opened l g.history (map (kept_read l) views)
   -- what the views have beside that
   pub types : TypesRule g.lists (types_words words) (map types_read views)
   pub rows : (o : ℕ) → RowRule (row_words words o) (map (row_read o) views)
   pub joins : JoinRule g.history (map join_read views)
-  pub sequence : SequenceRule (words global_sequence)
+  pub sequence : SequenceRule (words global_sequence) (own_sequences_of words) (map sequence_read views)
   pub limited : LimitRule limits (map limit_read views)
   pub spent : SpentRule views
 
@@ -245,6 +296,7 @@ pub record Holds (opened : World) (limits : Limits) (s : Board) (g : Ghost) : Ty
   pub words_are : length s.words ≡ table_words
   pub slots_are : length s.homes ≡ suc objects
   pub small : limits.place_max + passes < 2 ^ 64
+  pub formed : IsWellFormed opened
   pub parts : Parts opened limits (words_of s.words) s.homes s.views g
 
 -- the rule of the table

@@ -3,23 +3,28 @@ use Rattle.std.specs.Prelude.{ℕ, suc, ◌≡◌, ◌≢◌, ◌+◌, ◌-◌, 
 use mathlib.Core.Option.{some}
 use lib.ListN.{get_elem?}
 use Rattle.atomic_table.specs.Table.{Act, keeps, takes, gives, stepped, opening}
-use Rattle.at_value.specs.Widths.{objects}
+use Rattle.at_value.specs.Widths.{classes, objects}
+use Rattle.at_value.specs.declared.operation.Op as op
 use Rattle.at_value.specs.declared.limits.Limits.{Limits}
 use Rattle.at_model.specs.World.{World, IsWellFormed}
 use Rattle.at_dict.specs.Dictionary.{Dictionary}
 use Rattle.at_types.specs.Tags.{tags_to}
 use Rattle.at_view.specs.declared.view.TypeLists.{TypeLists}
 use Rattle.at_view.specs.declared.view.View.{View}
-use Rattle.at_view.specs.Counts.{passes}
+use Rattle.at_view.specs.declared.mark.StepKind as step_kind
+use Rattle.at_view.specs.declared.mark.StepKind.TheVariants as kinds
+use Rattle.at_view.specs.Counts.{passes, intent_words, inline_values, keys}
 use Rattle.at_view.specs.Views.{blank, first_view}
-use Rattle.at_view.specs.Words.{Words, Word, number_of, global_sequence, own_sequence, table_words}
+use Rattle.at_view.specs.Words.{Words, Word, number_of, place, intent, global_sequence, own_sequence, key, head, inline_value, table_words}
 use Rattle.at_core.specs.declared.lock.Lock as lock
 use Rattle.at_core.specs.declared.lock.Lock.TheVariants as locks
 use Rattle.at_core.specs.declared.stored.Stored.{Stored}
 use Rattle.at_core.specs.declared.stored.Stored.TheVariants as stored
 use Rattle.at_core.specs.Locks.{lock_word, slot_of, holds}
-use Rattle.at_core.specs.Rule.{Slot, Board, Ghost, Holds, IsLock, TypesAgree, words_of}
-use Rattle.at_core.specs.Steps.{Moment, MayTake, taken, missed, MayGive, given, lists_given, MaySplit, lists_parted, parted, child, MayJoin, lists_joined, merged, global_loaded, MayGoOnline, gone_online, MayGoOffline, gone_offline}
+use Rattle.at_core.specs.Rule.{Slot, Board, Ghost, Holds, IsLock, TypesAgree, words_of, copied_keys, keys_of}
+use Rattle.at_core.specs.PlaceSteps.{place_loaded, intent_stored, MayCommit, MayCommitIf, written, unwritten}
+use Rattle.at_core.specs.HeadSteps.{head_loaded, inline_loaded, key_loaded, MayOpen, head_opened, MayClose, head_closed, MayStore, inline_stored, MayAppend, key_appended}
+use Rattle.at_core.specs.Steps.{copied_heads, Moment, MayTake, taken, missed, MayGive, given, lists_given, MaySplit, lists_parted, parted, child, MayJoin, lists_joined, merged, global_loaded, MayGoOnline, gone_online, MayGoOffline, gone_offline}
 
 -- what the passes have in hand: by the number of a view and that of a slot, the slot where it is out to that pass
 abbrev pub Hands : Type 0
@@ -47,6 +52,23 @@ pub data Event : Type 0 where
   global_load : ℕ → Event
   go_online : ℕ → Event
   go_offline : ℕ → Event
+  -- it loads the place, stores a word of the operation that it intends, or makes a write of that operation: at whatever place comes
+  -- next, at the place that it has seen, or, where another one comes, not at all
+  place_load : ℕ → Event
+  intent_store : ℕ → ℕ → ℕ → Event
+  commit : ℕ → op.Op → Event
+  commit_if : ℕ → op.Op → Event
+  commit_miss : ℕ → op.Op → Event
+  -- it loads the head of an object, an inline value of one, or a key of a class
+  head_load : ℕ → ℕ → Event
+  inline_load : ℕ → ℕ → ℕ → Event
+  key_load : ℕ → ℕ → ℕ → Event
+  -- it opens the head of an object, closes it with a word, or stores an inline value
+  head_open : ℕ → ℕ → Event
+  head_close : ℕ → ℕ → ℕ → Event
+  inline_store : ℕ → ℕ → ℕ → ℕ → Event
+  -- it appends a key, for a name, to a class
+  key_append : ℕ → ℕ → ℕ → ℕ → Event
 
 abbrev pub words_at : Core → Words
 words_at a = words_of a.table.words
@@ -183,6 +205,99 @@ pub record GoesOffline (id : ℕ) (a b : Core) : Type 0 where
   pub asked : MayGoOffline view
   pub after : b ≡ at_word a id (own_sequence view.who.number) 0 (gone_offline view)
 
+-- The place is loaded.
+pub record LoadsPlace (id : ℕ) (a b : Core) : Type 0 where
+  pub view : View
+  pub makes : Makes a id view
+  pub after : b ≡ at_word a id place (words_at a place) (place_loaded view a.ghost.history)
+
+-- A word of the intended operation is stored.
+pub record Intends (id j n : ℕ) (a b : Core) : Type 0 where
+  pub view : View
+  pub makes : Makes a id view
+  pub index : j < intent_words
+  pub after : b ≡ at_word a id (intent view.who.number j) n (intent_stored view j n)
+
+-- the write is the last of the history
+abbrev pub with_write : Core → ℕ → step_kind.StepKind → View → op.Op → Core
+with_write a id kind view operation = record (at_word a id place (suc (words_at a place)) (written kind view a.ghost.history operation)) {
+  ghost = record a.ghost { history = a.ghost.history ++ operation ∷ [] };
+}
+
+-- A write takes the next place.
+pub record Commits (opened : World) (id : ℕ) (operation : op.Op) (a b : Core) : Type 0 where
+  pub view : View
+  pub makes : Makes a id view
+  pub asked : MayCommit opened view operation
+  pub after : b ≡ with_write a id kinds.Commit view operation
+
+-- A write takes the next place where that is the one after what the pass has seen.
+pub record CommitsIf (opened : World) (id : ℕ) (operation : op.Op) (a b : Core) : Type 0 where
+  pub view : View
+  pub makes : Makes a id view
+  pub asked : MayCommitIf opened view operation
+  pub found : words_at a place ≡ length view.history.seen
+  pub after : b ≡ with_write a id kinds.CommitIf view operation
+
+-- Another place is found, and nothing is written.
+pub record MissesPlace (opened : World) (id : ℕ) (operation : op.Op) (a b : Core) : Type 0 where
+  pub view : View
+  pub makes : Makes a id view
+  pub asked : MayCommitIf opened view operation
+  pub moved : words_at a place ≢ length view.history.seen
+  pub after : b ≡ at_word a id place (words_at a place) (unwritten view (words_at a place))
+
+-- The head of an object, an inline value, or a key is loaded.
+pub record LoadsHead (id o : ℕ) (a b : Core) : Type 0 where
+  pub view : View
+  pub makes : Makes a id view
+  pub object : o < objects
+  pub after : b ≡ at_word a id (head o) (words_at a (head o)) (head_loaded view o a.ghost.history (words_at a (head o)))
+
+pub record LoadsInline (id o i : ℕ) (a b : Core) : Type 0 where
+  pub view : View
+  pub makes : Makes a id view
+  pub object : o < objects
+  pub index : i < inline_values
+  pub after : b ≡ at_word a id (inline_value o i) (words_at a (inline_value o i)) (inline_loaded view o i (keys_of (words_at a)) (words_at a (inline_value o i)))
+
+pub record LoadsKey (id c i : ℕ) (a b : Core) : Type 0 where
+  pub view : View
+  pub makes : Makes a id view
+  pub class : c < classes
+  pub index : i < keys
+  pub after : b ≡ at_word a id (key c i) (words_at a (key c i)) (key_loaded view c i (copied_keys (keys_of (words_at a)) c) (words_at a (key c i)))
+
+-- The head of an object is opened, or closed.
+pub record Opens (id o : ℕ) (a b : Core) : Type 0 where
+  pub view : View
+  pub makes : Makes a id view
+  pub object : o < objects
+  pub asked : MayOpen view o
+  pub after : b ≡ at_word a id (head o) (suc (copied_heads view o)) (head_opened view o)
+
+pub record Closes (opened : World) (id o word : ℕ) (a b : Core) : Type 0 where
+  pub view : View
+  pub makes : Makes a id view
+  pub object : o < objects
+  pub asked : MayClose opened view o word
+  pub after : b ≡ at_word a id (head o) word (head_closed view o word)
+
+-- An inline value is stored.
+pub record StoresInline (id o i word : ℕ) (a b : Core) : Type 0 where
+  pub view : View
+  pub makes : Makes a id view
+  pub object : o < objects
+  pub asked : MayStore view o i word
+  pub after : b ≡ at_word a id (inline_value o i) word (inline_stored view o i word)
+
+-- A key is appended.
+pub record Appends (id c i n : ℕ) (a b : Core) : Type 0 where
+  pub view : View
+  pub makes : Makes a id view
+  pub asked : MayAppend view c i n
+  pub after : b ≡ at_word a id (key c i) (suc n) (key_appended view c i n)
+
 -- the event leads from one state to the other
 abbrev pub Goes : World → Event → Core → Core → Type 0
 Goes opened (lock_take id l) a b = Takes id l a b
@@ -195,6 +310,18 @@ Goes opened (join id other) a b = Joins id other a b
 Goes opened (global_load id) a b = LoadsGlobal id a b
 Goes opened (go_online id) a b = GoesOnline id a b
 Goes opened (go_offline id) a b = GoesOffline id a b
+Goes opened (place_load id) a b = LoadsPlace id a b
+Goes opened (intent_store id j n) a b = Intends id j n a b
+Goes opened (commit id operation) a b = Commits opened id operation a b
+Goes opened (commit_if id operation) a b = CommitsIf opened id operation a b
+Goes opened (commit_miss id operation) a b = MissesPlace opened id operation a b
+Goes opened (head_load id o) a b = LoadsHead id o a b
+Goes opened (inline_load id o i) a b = LoadsInline id o i a b
+Goes opened (key_load id c i) a b = LoadsKey id c i a b
+Goes opened (head_open id o) a b = Opens id o a b
+Goes opened (head_close id o word) a b = Closes opened id o word a b
+Goes opened (inline_store id o i word) a b = StoresInline id o i word a b
+Goes opened (key_append id c i n) a b = Appends id c i n a b
 
 -- these events lead from one state to the other
 abbrev pub Leads : World → List Event → Core → Core → Type 0

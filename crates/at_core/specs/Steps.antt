@@ -17,13 +17,13 @@ use Rattle.at_view.specs.declared.view.TypeLists.{TypeLists}
 use Rattle.at_view.specs.declared.view.TypesView.{TypesView}
 use Rattle.at_view.specs.declared.view.View.{View}
 use Rattle.at_view.specs.Views.{blank, longer}
-use Rattle.at_view.specs.Words.{Word, Words, number_of, place, global_sequence, own_sequence, head, key}
+use Rattle.at_view.specs.Words.{Word, Words, number_of, place, global_sequence, own_sequence, head}
 use Rattle.at_core.specs.declared.lock.Lock as lock
 use Rattle.at_core.specs.declared.lock.Lock.TheVariants as locks
 use Rattle.at_core.specs.declared.stored.Stored.{Stored}
-use Rattle.at_core.specs.Heads.{class_of}
+use Rattle.at_core.specs.Heads.{class_of, IsWhole}
 use Rattle.at_core.specs.Locks.{lock_word, hold_at, hold_of, holds, copy_at}
-use Rattle.at_core.specs.Rule.{Agrees, shape_under, copied_keys, types_words, row_words}
+use Rattle.at_core.specs.Rule.{Agrees, shape_under, copied_keys, keys_of, types_words, row_words}
 
 -- Marks
 
@@ -62,7 +62,7 @@ rows_taken (locks.Row o) at rows = (record { object = o; words = row_words at.wo
 
 -- the keys of a class as they are
 abbrev pub keys_of_class : Words → ℕ → ClassKeys
-keys_of_class words c = record { class = c; keys = copied_keys (λ d i. words (key d i)) c }
+keys_of_class words c = record { class = c; keys = copied_keys (keys_of words) c }
 
 abbrev pub known_taken : lock.Lock → Moment → List ClassKeys → List ClassKeys
 known_taken locks.Types at known = known
@@ -91,7 +91,8 @@ taken l v at = marked (holding l v at) (mark kinds.LockTake (lock_word l) (Some 
 abbrev pub missed : lock.Lock → View → ℕ → View
 missed l v found = marked v (mark kinds.LockTake (lock_word l) (Some found) (Some found))
 
--- Giving a lock back: asked is that the pass holds it, and that its slot has a value that agrees with what the lock kept
+-- Giving a lock back: asked is that the pass holds it, that its slot has a value that agrees with what the lock kept, and that
+-- nothing is open
 
 -- what the copies of heads are
 abbrev pub copied_heads : View → ℕ → ℕ
@@ -106,10 +107,16 @@ ValueAgrees opened l v lists x = Agrees v.who.limits (replay opened (hold_of l v
 abbrev pub Returns : TypeLists → TypeLists → Type 0
 Returns lists back = back ≡ lists
 
+-- Nothing that the lock is needed for is open: of a row its head, and with the types no head at all.
+abbrev pub IsShut : lock.Lock → View → Type 0
+IsShut locks.Types v = (o : ℕ) → holds (locks.Row o) v ≡ true → IsWhole (copied_heads v o)
+IsShut (locks.Row o) v = IsWhole (copied_heads v o)
+
 pub record MayGive (opened : World) (l : lock.Lock) (v : View) (back : TypeLists) (x : Stored) : Type 0 where
   pub held : holds l v ≡ true
   pub returns : Returns v.types.lists back
   pub agrees : ValueAgrees opened l v back x
+  pub shut : IsShut l v
 
 abbrev pub let_go : Hold → Hold
 let_go hold = record hold { held = false }

@@ -4,11 +4,14 @@
 
 pub mod family;
 mod hand;
+pub mod heads;
+pub mod keys;
 pub mod laws;
 pub mod lock;
 pub mod locking;
 mod open_world;
 mod pass;
+pub mod places;
 pub mod sequences;
 pub mod stored;
 #[cfg(test)]

@@ -1,5 +1,7 @@
 //! The steps by which a pass loads the global sequence, goes online and goes offline.
-ghost use Rattle.std.specs.Prelude.{◌≡◌, ◌<◌};
+ghost use Rattle.std.specs.Prelude.{◌≡◌, ◌<◌, true};
+ghost use Rattle.at_core.specs.declared.lock.Lock.TheVariants as locks;
+ghost use Rattle.at_core.specs.Locks.{holds};
 ghost use Rattle.at_core.specs.Passes.{view, IsOf, IsSame, HasSameHand};
 ghost use Rattle.at_core.specs.Steps.{global_loaded, gone_online, gone_offline, MayGoOnline, MayGoOffline};
 
@@ -35,12 +37,13 @@ impl Play<Option<Stored>, View> for OfflinePlay {
     ghost then = { GoesOffline };
 }
 
-/// Loads the global sequence, which is never 0.
+/// Loads the global sequence, which is never 0. Who has the lock of the types finds what it knows it to be.
 pub fn load_global(world: &World, pass: &mut Pass) -> u64
     requires of { IsOf pass.old world.now }
     ensures same { IsSame pass.old pass.new × IsOf pass.new world.now × HasSameHand pass.old pass.new }
     ensures loaded { view pass.new ≡ global_loaded (view pass.old) result }
     ensures begun { 0 < result }
+    ensures copy { holds locks.Types (view pass.old) ≡ true → result ≡ (view pass.old).types.words.global }
 {
     world
         .table

@@ -5,6 +5,7 @@ ghost use Rattle.at_view.specs.Counts.{passes};
 ghost use Rattle.at_view.specs.Words.{table_words};
 ghost use Rattle.at_core.specs.declared.lock.Lock as lock;
 ghost use Rattle.at_core.specs.Locks.{holds, slot_of};
+ghost use Rattle.at_core.specs.Opened.{AreGood};
 ghost use Rattle.at_core.specs.Reads.{in_hand, slot_number};
 ghost use Rattle.at_core.specs.Rule.{IsLock};
 ghost use Rattle.at_types.specs.Tags.{times};
@@ -45,6 +46,7 @@ pub struct World {
     pub(crate) sleepers: Vec<AtomicU64>,
     ghost sized: { (table.shared.table_id.words ≡ table_words) × (table.shared.table_id.slots ≡ suc objects) },
     ghost limited: { table.shared.key ≡ limits },
+    ghost good: { AreGood limits },
     ghost counted: { length sleepers.items ≡ suc objects },
 }
 

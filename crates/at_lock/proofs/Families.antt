@@ -14,7 +14,7 @@ use Rattle.at_core.specs.declared.lock.Lock.TheVariants as locks
 use Rattle.at_core.specs.declared.stored.Stored.TheVariants as stored
 use Rattle.at_core.specs.Locks.{holds}
 use Rattle.at_core.specs.Plays.{Brought}
-use Rattle.at_core.specs.Steps.{given, parted, child, merged, global_loaded, gone_online, gone_offline, next_number, HoldsTypesAlone}
+use Rattle.at_core.specs.Steps.{given, parted, child, merged, global_loaded, gone_online, gone_offline, next_number, HoldsTypesAlone, IsShut}
 use Rattle.at_core.proofs.LockLemmas.{hold_taken, hold_beside, hold_given, hold_kept, holds_parted, holds_merged}
 use Rattle.at_lock.specs.Holding.{IsRight}
 use Rattle.at_core.proofs.Counts.{times_cons, weight_same}
@@ -49,6 +49,15 @@ alone_parted v h = record { types = holds_parted locks.Types v ∙ h.types; rows
 
 pub alone_merged : (v w : View) → HoldsTypesAlone v → HoldsTypesAlone (merged v w)
 alone_merged v w h = record { types = holds_merged locks.Types v w ∙ h.types; rows = λ o. holds_merged (locks.Row o) v w ∙ h.rows o }
+
+-- it has no head open
+pub alone_shut : (v : View) → HoldsTypesAlone v → IsShut locks.Types v
+alone_shut v h o held = absurd (true≢false (sym held ∙ h.rows o))
+
+-- what a pass that held no lock and took one has open: nothing
+pub taken_shut : (l : lock.Lock) (v w : View) → HoldsNone v → IsTaken l v w → IsShut l w
+taken_shut locks.Types v w none t = alone_shut w (alone v w none t)
+taken_shut (locks.Row o) v w none t = subst (IsShut (locks.Row o)) (sym t.last.after) t.last.took.head.0
 
 -- and holds none once it gives it back
 pub none_given : (v : View) → HoldsTypesAlone v → HoldsNone (given locks.Types v)

@@ -6,7 +6,7 @@ ghost use Rattle.at_core.specs.declared.lock.Lock.TheVariants as locks;
 ghost use Rattle.at_core.specs.declared.stored.Stored.TheVariants as stored;
 ghost use Rattle.at_core.specs.Passes.{view, hand, IsOf, IsSame, HasSameHand};
 ghost use Rattle.at_core.specs.Plays.{Brought};
-ghost use Rattle.at_core.specs.Steps.{given, MayGoOffline};
+ghost use Rattle.at_core.specs.Steps.{given, IsShut, MayGoOffline};
 ghost use Rattle.at_core.specs.Locks.{HoldsNone};
 ghost use Rattle.at_lock.specs.Families.{HasComeOnline, IsSplit, HasNoNumber, IsJoined, HasSeenMore, MayEnd, ended};
 ghost use Rattle.at_lock.specs.Holding.{HasOut, IsRight};
@@ -30,6 +30,7 @@ fn put_back(world: &World, pass: &mut Pass, types: Box<Types>)
     requires of { IsOf pass.old world.now }
     requires out { HasOut pass.old locks.Types }
     requires right { IsRight (view pass.old) locks.Types (stored.Types types) }
+    requires shut { IsShut locks.Types (view pass.old) }
     ensures same { IsSame pass.old pass.new × IsOf pass.new world.now }
     ensures given { view pass.new ≡ given locks.Types (view pass.old) }
     ensures brought { Brought (view pass.old) }

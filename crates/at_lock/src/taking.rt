@@ -4,7 +4,7 @@ ghost use Rattle.at_view.specs.declared.mark.StepKind.TheVariants as kinds;
 ghost use Rattle.at_core.specs.Locks.{holds, lock_word};
 ghost use Rattle.at_core.specs.Passes.{view, hand, slot_at, IsOf, IsSame, IsElsewhereSame};
 ghost use Rattle.at_core.specs.Plays.{Brought, Found, IsAlone};
-ghost use Rattle.at_core.specs.Steps.{given, mark, missed};
+ghost use Rattle.at_core.specs.Steps.{given, mark, missed, IsShut};
 ghost use Rattle.at_lock.specs.declared.taking.Taken.TheVariants as taken;
 ghost use Rattle.at_core.specs.Locks.{HoldsNone};
 ghost use Rattle.at_lock.specs.Holding.{HasValue};
@@ -57,6 +57,7 @@ pub fn take<R: Wait>(world: &World, rt: &R, pass: &mut Pass, lock: Lock)
     ensures same { IsSame pass.old pass.new × IsOf pass.new world.now }
     ensures taken { IsTaken lock (view pass.old) (view pass.new) }
     ensures has { HasValue pass.new lock }
+    ensures shut { IsShut lock (view pass.new) }
     ensures elsewhere { IsElsewhereSame pass.old pass.new lock }
 {
     let lock = &lock;
@@ -69,10 +70,12 @@ pub fn take<R: Wait>(world: &World, rt: &R, pass: &mut Pass, lock: Lock)
     unreachable!()
 }
 
-/// Gives back a lock that the pass holds, with the value in its slot, which has to be right; wakes a pass that sleeps for it.
+/// Gives back a lock that the pass holds, with the value in its slot, which has to be right, and with nothing open: of a row the
+/// head of its object, and with the types no head at all. It wakes a pass that sleeps for the lock.
 pub fn give(world: &World, pass: &mut Pass, lock: Lock)
     requires of { IsOf pass.old world.now }
     requires has { HasValue pass.old lock }
+    requires shut { IsShut lock (view pass.old) }
     ensures same { IsSame pass.old pass.new × IsOf pass.new world.now }
     ensures given { view pass.new ≡ given lock (view pass.old) }
     ensures gone { slot_at pass.new lock ≡ None }

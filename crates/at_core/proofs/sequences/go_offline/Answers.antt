@@ -1,21 +1,16 @@
-use Rattle.std.proofs.Common.{◌≡◌, ℕ, suc, ◌<◌, ◌≤◌, map, sym, ap, subst, ◌∙◌, IsTrue, arith}
-use Rattle.std.specs.Prelude.{is_some}
+use Rattle.std.proofs.Common.{◌≡◌, ℕ, ◌<◌, false, refl, sym, ap, subst, ◌∙◌, IsTrue, arith}
 use Rattle.std.proofs.lemmas.Bool.Decides.{nat_tests}
 use mathlib.Core.Option.{none}
 use Rattle.atomic_table.specs.Table.{Allows, step}
-use Rattle.at_value.specs.Widths.{objects}
 use Rattle.at_model.specs.World.{opening}
-use Rattle.at_types.specs.Tags.{times}
-use Rattle.at_view.specs.Counts.{passes}
 use Rattle.at_view.specs.Words.{number_of, own_sequence, is_there}
 use Rattle.at_view.proofs.WordLaws.{inside}
-use Rattle.at_core.specs.Locks.{slot_of, holds}
-use Rattle.at_core.specs.Reads.{in_hand, slot_number}
 use Rattle.at_core.specs.Rule.{Base}
 use Rattle.at_core.specs.Plays.{GoesOffline}
 use Rattle.at_core.specs.Steps.{gone_offline}
 use Rattle.at_core.proofs.Allowed.{turns_offline}
 use Rattle.at_core.proofs.QuietSteps.{offline_quiet, holds_quiet}
+use Rattle.at_core.proofs.PassSteps.{pass_after}
 use Rattle.at_core.proofs.sequences.go_offline.Goals as goal
 
 pub store-requires : goal.store-requires
@@ -30,7 +25,7 @@ store-requires c =
     let word : number_of (own_sequence me.0.who.number) ≡ c.own_sequence.result = ap (λ (n : ℕ). number_of (own_sequence n)) p.numbered.0 ∙ sym c.own_sequence.ensures in (
       c.requires.of.table,
       subst (λ (n : ℕ). n < table.table_id.words) (sym c.own_sequence.ensures) room,
-      subst Q word (turns_offline opening table.key table.table_id.slots p.seat.id me p.live (subst (λ (n : ℕ). n < passes) (sym p.numbered.0) small)),
+      subst Q word (turns_offline opening table.key table.table_id.slots p.seat.id me p.live),
     )
 
 -- nothing has changed but what the pass knows of sequences and tags
@@ -39,13 +34,5 @@ invariant_of-pass c =
     let p = c.args.pass.now in
     let v = p.seat.me.0 in
     let w = gone_offline v in
-    let e : c.store.new.seat.me ≡ (w, p.seat.me.1) = (c.store.ensures.2 (c.own_sequence.ensures ∙ ap (λ (n : ℕ). number_of (own_sequence n)) (sym p.numbered.0))).1 in
-    record {
-      live = ap (λ m. m.0.who.live) e ∙ p.live;
-      numbered = (ap (λ m. m.0.who.number) e ∙ p.numbered.0, p.numbered.1);
-      turned = ap (λ m. m.0.tags.online) e;
-      listed = p.listed ∙ sym (ap (λ m. map slot_number m.1) e);
-      once = λ k. subst (λ hand. times k (map slot_number hand) ≤ 1) (sym (ap (λ m. m.1) e)) (p.once k);
-      within = λ k. subst (λ hand. 0 < times k (map slot_number hand) → k < suc objects) (sym (ap (λ m. m.1) e)) (p.within k);
-      right = λ l is. ap (λ m. is_some (in_hand (slot_of l) m.1)) e ∙ (p.right l is ∙ (sym (holds_quiet v w (offline_quiet v) l) ∙ sym (ap (λ m. holds l m.0) e)));
-    }
+    let f = pass_after p w false c.store.new.seat.me (c.store.ensures.2 (c.own_sequence.ensures ∙ ap (λ (n : ℕ). number_of (own_sequence n)) (sym p.numbered.0))).1 (record { live = refl; number = refl; turned = refl; holds = holds_quiet v w (offline_quiet v) }) in
+    record { live = f.live; numbered = f.numbered; turned = f.turned; listed = f.listed; once = f.once; within = f.within; right = f.right }

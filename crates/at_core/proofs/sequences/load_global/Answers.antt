@@ -1,15 +1,11 @@
-use Rattle.std.proofs.Common.{◌≡◌, ℕ, suc, ◌<◌, ◌≤◌, map, sym, ap, subst, ◌∙◌, refl}
-use Rattle.std.specs.Prelude.{is_some}
-use Rattle.at_value.specs.Widths.{objects}
+use Rattle.std.proofs.Common.{ℕ, ◌<◌, refl, sym, subst}
 use Rattle.at_model.specs.World.{opening}
-use Rattle.at_types.specs.Tags.{times}
 use Rattle.at_view.specs.Words.{number_of, global_sequence}
 use Rattle.at_view.proofs.WordLaws.{inside}
-use Rattle.at_core.specs.Locks.{slot_of, holds}
-use Rattle.at_core.specs.Reads.{in_hand, slot_number}
 use Rattle.at_core.specs.Steps.{global_loaded}
 use Rattle.at_core.proofs.Allowed.{loads_global}
 use Rattle.at_core.proofs.QuietSteps.{load_quiet, holds_quiet}
+use Rattle.at_core.proofs.PassSteps.{pass_after}
 use Rattle.at_core.proofs.sequences.load_global.Goals as goal
 
 pub load-requires : goal.load-requires
@@ -25,13 +21,5 @@ invariant_of-pass c =
     let p = c.args.pass.now in
     let v = p.seat.me.0 in
     let w = global_loaded v c.load.result in
-    let e : c.load.new.seat.me ≡ (w, p.seat.me.1) = (c.load.ensures.2 refl).0 in
-    record {
-      live = ap (λ m. m.0.who.live) e ∙ p.live;
-      numbered = (ap (λ m. m.0.who.number) e ∙ p.numbered.0, p.numbered.1);
-      turned = ap (λ m. m.0.tags.online) e ∙ p.turned;
-      listed = p.listed ∙ sym (ap (λ m. map slot_number m.1) e);
-      once = λ k. subst (λ hand. times k (map slot_number hand) ≤ 1) (sym (ap (λ m. m.1) e)) (p.once k);
-      within = λ k. subst (λ hand. 0 < times k (map slot_number hand) → k < suc objects) (sym (ap (λ m. m.1) e)) (p.within k);
-      right = λ l is. ap (λ m. is_some (in_hand (slot_of l) m.1)) e ∙ (p.right l is ∙ (sym (holds_quiet v w (load_quiet v c.load.result) l) ∙ sym (ap (λ m. holds l m.0) e)));
-    }
+    let f = pass_after p w p.online c.load.new.seat.me (c.load.ensures.2 refl).0 (record { live = refl; number = refl; turned = p.turned; holds = holds_quiet v w (load_quiet v c.load.result) }) in
+    record { live = f.live; numbered = f.numbered; turned = f.turned; listed = f.listed; once = f.once; within = f.within; right = f.right }

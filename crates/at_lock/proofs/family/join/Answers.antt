@@ -7,12 +7,12 @@ use Rattle.at_core.specs.declared.lock.Lock.TheVariants as locks
 use Rattle.at_core.specs.Locks.{holds}
 use Rattle.at_core.specs.Passes.{view}
 use Rattle.at_core.specs.Plays.{Brought}
-use Rattle.at_core.specs.Steps.{given, merged, HoldsTypesAlone}
+use Rattle.at_core.specs.Steps.{given, merged, HoldsTypesAlone, IsShut}
 use Rattle.at_core.proofs.Prefixes.{prefix_trans}
 use Rattle.at_core.specs.Locks.{HoldsNone}
 use Rattle.at_lock.specs.Families.{HasSeenMore}
 use Rattle.at_lock.proofs.Waiting.{who_waited}
-use Rattle.at_lock.proofs.Families.{alone, alone_merged, none_given, more_taken, first_seen, second_seen, ended_history, ended_write, ended_offline, ended_holds}
+use Rattle.at_lock.proofs.Families.{alone, alone_shut, alone_merged, none_given, more_taken, first_seen, second_seen, ended_history, ended_write, ended_offline, ended_holds}
 use Rattle.at_lock.proofs.family.join.Goals as goal
 
 pub take_in-requires-clause-may : goal.take_in-requires-clause-may
@@ -44,6 +44,13 @@ put_back-requires-clause-out g c =
       held = ap (holds locks.Types) same ∙ (alone_merged held other (alone (view c.args.pass.now) held c.requires.out.0 c.take.ensures.taken)).types;
       out = c.take_in.ensures.same.2 locks.Types ∙ c.types_out-types.ensures.out.out;
     }
+
+pub put_back-requires-clause-shut : goal.put_back-requires-clause-shut
+put_back-requires-clause-shut g c =
+    let held = view c.take.new.pass in
+    let other = view c.end.new.pass in
+    let same : view c.take_in.new.pass ≡ merged held other = c.take_in.ensures.merged ∙ ap (λ (v : View). merged v other) c.types_out-types.ensures.same.2 in
+    subst (IsShut locks.Types) (sym same) (alone_shut (merged held other) (alone_merged held other (alone (view c.args.pass.now) held c.requires.out.0 c.take.ensures.taken)))
 
 pub returns-clause-out : goal.returns-clause-out
 returns-clause-out g c =

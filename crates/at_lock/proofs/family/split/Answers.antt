@@ -5,12 +5,12 @@ use Rattle.at_view.specs.declared.view.View.{View}
 use Rattle.at_core.specs.declared.lock.Lock.TheVariants as locks
 use Rattle.at_core.specs.Locks.{holds}
 use Rattle.at_core.specs.Passes.{view}
-use Rattle.at_core.specs.Steps.{given, parted, child, next_number, HoldsTypesAlone}
+use Rattle.at_core.specs.Steps.{given, parted, child, next_number, HoldsTypesAlone, IsShut}
 use Rattle.at_core.proofs.HandOf.{empty_hand}
 use Rattle.at_core.proofs.LockLemmas.{holds_child}
 use Rattle.at_core.specs.Locks.{HoldsNone}
 use Rattle.at_lock.specs.Families.{HasComeOnline, HasSeenMore}
-use Rattle.at_lock.proofs.Families.{alone, alone_parted, none_given, more_taken, numbers_of, least_number, online_free, child_among, same_children, more_children}
+use Rattle.at_lock.proofs.Families.{alone, alone_shut, alone_parted, none_given, more_taken, numbers_of, least_number, online_free, child_among, same_children, more_children}
 use Rattle.at_lock.proofs.family.split.Goals as goal
 
 pub returns-in_default-clause-out : goal.returns-in_default-clause-out
@@ -58,6 +58,17 @@ put_back-requires-2-clause-out g c =
       held = ap (holds locks.Types) same ∙ (alone_parted held (alone (view c.args.pass.now) held c.requires.out c.take.ensures.taken)).types;
       out = c.split_off-new.ensures.same.2 locks.Types ∙ c.types_out-types.ensures.out.out;
     }
+
+pub put_back-requires-clause-shut : goal.put_back-requires-clause-shut
+put_back-requires-clause-shut g c =
+    let held = view c.take.new.pass in
+    subst (IsShut locks.Types) (sym c.types_out-types.ensures.same.2) (alone_shut held (alone (view c.args.pass.now) held c.requires.out c.take.ensures.taken))
+
+pub put_back-requires-2-clause-shut : goal.put_back-requires-2-clause-shut
+put_back-requires-2-clause-shut g c =
+    let held = view c.take.new.pass in
+    let same : view c.split_off-new.new.pass ≡ parted held = c.split_off-new.ensures.parted ∙ ap parted c.types_out-types.ensures.same.2 in
+    subst (IsShut locks.Types) (sym same) (alone_shut (parted held) (alone_parted held (alone (view c.args.pass.now) held c.requires.out c.take.ensures.taken)))
 
 pub returns-clause-out : goal.returns-clause-out
 returns-clause-out g c =

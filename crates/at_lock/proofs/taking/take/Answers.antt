@@ -9,6 +9,7 @@ use Rattle.at_core.proofs.HandOf.{empty_hand}
 use Rattle.at_core.proofs.LockLemmas.{holds_missed}
 use Rattle.at_lock.specs.Waits.{IsTakenAtOnce}
 use Rattle.at_lock.proofs.Waiting.{waited_more, holds_waited, found_then, same_pass, same_then}
+use Rattle.at_lock.proofs.Families.{taken_shut}
 use Rattle.at_lock.proofs.taking.take.Goals as goal
 
 pub loop-init : goal.loop-init
@@ -36,6 +37,9 @@ returns-in-Got-clause-taken g c =
     let so = c.loop.invariant in
     let got = (c.try_take.ensures.got c.in-Got.is).0 in
     record { holders = so.4; found = so.6; last = subst (λ (v : View). IsTakenAtOnce c.args.lock v (view c.try_take.new.pass)) so.5 got }
+
+pub returns-in-Got-clause-shut : goal.returns-in-Got-clause-shut
+returns-in-Got-clause-shut g c = taken_shut c.args.lock (view c.args.pass.now) (view c.try_take.new.pass) c.requires.out (returns-in-Got-clause-taken g c)
 
 pub returns-in-Got-clause-elsewhere : goal.returns-in-Got-clause-elsewhere
 returns-in-Got-clause-elsewhere g c k ne = c.try_take.ensures.elsewhere k ne ∙ c.loop.invariant.2 k ne
