@@ -29,6 +29,7 @@ use Rattle.at_core.specs.Locks.{lock_word, slot_of, hold_of}
 use Rattle.at_core.specs.Looks.{keys_at, born_with, KeyStays, UnusedSays, IsBacked}
 use Rattle.at_core.specs.Reads.{past_read, fresh_read, kin_read, number_read, holder_read, kept_read, TypesRead, types_read, row_read, open_read, known_read, looks_read, join_read, limit_read}
 use Rattle.at_core.specs.Rule.{Slot, Board, Homes, Each, HistoryRule, RoomRule, KinRule, LockRule, NumberRule, SlotRule, KeptRule, TypesRule, RowRule, JoinRule, LimitRule, OpenRule, HeadRule, KnownRule, LookRule, IsLock, Ghost, Parts, Holds, listed, copied_keys, words_of, heads_of, row_locks_of, keys_of, values_of, own_sequences_of, types_words, row_words, shape_under}
+use Rattle.at_core.proofs.OpeningCounts.{no_fewer, openings_left}
 use Rattle.at_core.proofs.Lists.{each_set, each_other, map_back, map_set}
 use Rattle.at_core.proofs.WordLemmas.{updated_here, updated_else, stored}
 use Rattle.at_core.proofs.HeadFrames.{listed_at, listed_set, listed_grown, grown_trans, grown_key, values_grow, known_more}
@@ -207,6 +208,7 @@ module _ (opened : World) (limits : Limits) (words : Words) (homes : Homes) (vie
       heads_are = heads_after;
       open_are = λ k. left_alone (open_read k) (OpenRule (replay opened g.history) k (heads_of words k)) views id v w at (open_same k v w (holder_same (locks.Row k)) (holder_same locks.Types)) (p.headed.open_are k);
       rows_are = p.headed.rows_are;
+      openings = λ k. openings_left k (heads_of words k) views id v w at (no_fewer k v w _ refl refl) (p.headed.openings k);
       keys = keys_after;
       cells = p.headed.cells;
       known = known_after;

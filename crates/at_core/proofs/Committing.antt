@@ -36,6 +36,7 @@ use Rattle.at_core.specs.Reads.{PastRead, past_read, fresh_read, kin_read, numbe
 use Rattle.at_core.specs.Rule.{Slot, Board, Homes, Each, weight, HistoryRule, RoomRule, KinRule, LockRule, NumberRule, SlotRule, KeptBy, KeptRule, TypesRule, RowRule, JoinRule, LimitRule, OpenRule, HeadRule, LookRule, IsLock, Ghost, Parts, Holds, words_of, heads_of, row_locks_of, keys_of, values_of, own_sequences_of, types_words, row_words, shape_under}
 use Rattle.at_core.specs.Steps.{copied_heads}
 use Rattle.at_core.specs.Writes.{needs_types, moved_by}
+use Rattle.at_core.proofs.OpeningCounts.{no_fewer, openings_left}
 use Rattle.at_core.proofs.Lists.{each_set, each_other, sum_set, map_back, map_set}
 use Rattle.at_core.proofs.Counts.{times_cons, times_append, weight_same, weight_other}
 use Rattle.at_core.proofs.Prefixes.{prefix_self, prefix_trans, prefix_length, prefix_shorter, prefix_whole}
@@ -403,6 +404,7 @@ module _ (opened : World) (limits : Limits) (words : Words) (homes : Homes) (vie
       heads_are = heads_after;
       open_are = open_after;
       rows_are = p.headed.rows_are;
+      openings = λ k. openings_left k (heads_of words k) views id v w at (no_fewer k v w _ refl refl) (p.headed.openings k);
       keys = p.headed.keys;
       cells = p.headed.cells;
       known = known_left views id v w at (keys_of words) refl p.headed.known;

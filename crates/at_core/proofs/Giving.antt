@@ -18,6 +18,7 @@ use Rattle.at_core.specs.Locks.{lock_word, slot_of, hold_of, holds, copy_at, IsU
 use Rattle.at_core.specs.Reads.{past_read, fresh_read, kin_read, number_read, holder_read, kept_read, types_read, row_read, open_read, sequence_read, join_read, limit_read}
 use Rattle.at_core.specs.Rule.{Homes, HistoryRule, RoomRule, KinRule, LockRule, NumberRule, SlotRule, KeptBy, KeptRule, TypesCopied, TypesRule, RowRule, JoinRule, LimitRule, Ghost, Parts, IsLock, Agrees, OpenRule, SequenceRule, HeadParts, heads_of, row_locks_of, keys_of, values_of, own_sequences_of, types_words, row_words, shape_under}
 use Rattle.at_core.specs.Steps.{IsShut, MayGive, given, lists_given, copied_heads}
+use Rattle.at_core.proofs.OpeningCounts.{no_fewer, openings_left}
 use Rattle.at_core.proofs.Lists.{each_set, each_one}
 use Rattle.at_core.proofs.Prefixes.{prefix_self, prefix_trans}
 use Rattle.at_core.proofs.WordLemmas.{updated_here}
@@ -195,6 +196,7 @@ module _ (opened : World) (limits : Limits) (words : Words) (homes : Homes) (vie
           heads_are = heads_locked opened (heads_of words) (row_locks_of words) (row_locks_of after) (keys_of words) (values_of words) g.history views p.headed still_owned;
           open_are = λ o. open_changed opened (heads_of words) g.history views id w o (p.headed.open_are o) (open_after o);
           rows_are = p.headed.rows_are;
+          openings = λ o. openings_left o (heads_of words o) views id v w at (no_fewer o v w _ refl refl) (p.headed.openings o);
           keys = p.headed.keys;
           cells = p.headed.cells;
           known = known_left views id v w at (keys_of words) refl p.headed.known;

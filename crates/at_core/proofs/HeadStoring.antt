@@ -27,8 +27,10 @@ use Rattle.at_core.specs.Inline.{IsHeadOf}
 use Rattle.at_core.specs.Locks.{lock_word, slot_of, holds, copy_at}
 use Rattle.at_core.specs.Looks.{IsBacked}
 use Rattle.at_core.specs.Reads.{row_read, OpenRead, open_read, looks_read}
-use Rattle.at_core.specs.Rule.{Slot, Board, Homes, Each, SlotRule, OpenRule, HeadRule, LookRule, RowsAre, IsLock, Ghost, Parts, Holds, words_of, heads_of, row_locks_of, keys_of, values_of, row_words, shape_under}
+use Rattle.at_core.specs.Rule.{Slot, Board, Homes, Each, SlotRule, OpenRule, HeadRule, LookRule, RowsAre, OpeningRule, IsLock, Ghost, Parts, Holds, words_of, heads_of, row_locks_of, keys_of, values_of, row_words, shape_under}
 use Rattle.at_core.specs.Steps.{mark, copied_heads}
+use Rattle.at_core.specs.Openings.{openings_of}
+use Rattle.at_core.proofs.OpeningCounts.{no_fewer, openings_left}
 use Rattle.at_core.proofs.Lists.{each_other, map_back, map_set}
 use Rattle.at_core.proofs.WordLemmas.{updated_here, updated_else, stored}
 use Rattle.at_core.proofs.Parts.{left_alone, known_left}
@@ -47,7 +49,8 @@ pub record MayBe (opened : World) (words : Words) (g : Ghost) (v : View) (o n : 
   pub named : HasDictionary (shape_of n) → ((shape_of n).row ≡ o) ⊎ NamesRow v (shape_of n).row
 
 module _ (opened : World) (limits : Limits) (words : Words) (homes : Homes) (views : List View) (g : Ghost) (p : Parts opened limits words homes views g) (id : ℕ) (v : View) (at : get_elem? views id ≡ some v) (live : v.who.live ≡ true)
-    (kind : step_kind.StepKind) (o n : ℕ) (held : holds (locks.Row o) v ≡ true) (may : MayBe opened words g v o n) where
+    (kind : step_kind.StepKind) (o n : ℕ) (held : holds (locks.Row o) v ≡ true) (may : MayBe opened words g v o n)
+    (often : OpeningRule n (map (openings_of o) (set views id (head_stored kind v o n)))) where
   abbrev w : View
   w = head_stored kind v o n
 
@@ -152,6 +155,12 @@ module _ (opened : World) (limits : Limits) (words : Words) (homes : Homes) (vie
   looks_after = left_alone looks_read (LookRule opened (heads_of after) (keys_of words) g.history) views id v w at refl
       (λ i looks e. All-weaker (λ look. IsBacked opened (heads_of words look.object) (keys_of words) g.history look) (λ look. IsBacked opened (heads_of after look.object) (keys_of words) g.history look) backed_after looks (p.headed.looks i looks e))
 
+  openings_after : (k : ℕ) → OpeningRule (heads_of after k) (map (openings_of k) (set views id w))
+  openings_after k = dite (ℕ_discrete k o)
+      (λ (e : k ≡ o). subst (λ (x : ℕ). OpeningRule (heads_of after x) (map (openings_of x) (set views id w))) (sym e) (subst (λ (x : ℕ). OpeningRule x (map (openings_of o) (set views id w))) (sym here) often))
+      (λ (ne : k ≢ o). subst (λ (x : ℕ). OpeningRule x (map (openings_of k) (set views id w))) (sym (else_same k ne))
+      (openings_left k (heads_of words k) views id v w at (no_fewer k v w (mark kind (head o) None (Some n)) refl refl) (p.headed.openings k)))
+
   pub head_keeps : Parts opened limits after homes (set views id w) g
   head_keeps = row_keeps opened limits words homes views g p id v at live o held new_words (mark kind (head o) None (Some n)) after
       (record {
@@ -169,6 +178,7 @@ module _ (opened : World) (limits : Limits) (words : Words) (homes : Homes) (vie
         heads_are = heads_after;
         open_are = open_after;
         rows_are = rows_after;
+        openings = openings_after;
         keys = p.headed.keys;
         cells = p.headed.cells;
         known = known_left views id v w at (keys_of words) refl p.headed.known;
@@ -177,9 +187,9 @@ module _ (opened : World) (limits : Limits) (words : Words) (homes : Homes) (vie
 
 -- The rule over the table, after the store
 pub head_moves : (opened : World) (limits : Limits) (s : Board) (g : Ghost) (h : Holds opened limits s g) (id : ℕ) (v : View) (at : get_elem? s.views id ≡ some v) (live : v.who.live ≡ true) (hand : List (ℕ × Slot))
-    (kind : step_kind.StepKind) (o n : ℕ) → o < objects → holds (locks.Row o) v ≡ true → MayBe opened (words_of s.words) g v o n
+    (kind : step_kind.StepKind) (o n : ℕ) → o < objects → holds (locks.Row o) v ≡ true → MayBe opened (words_of s.words) g v o n → OpeningRule n (map (openings_of o) (set s.views id (head_stored kind v o n)))
     → Holds opened limits (stepped s (number_of (head o)) n id hand (head_stored kind v o n) keeps) g
-head_moves opened limits s g h id v at live hand kind o n small held may =
+head_moves opened limits s g h id v at live hand kind o n small held may often =
     let there : IsTrue (is_there (head o)) = grind (arith, nat_tests, small) in
     record {
       words_are = length-set s.words (number_of (head o)) n ∙ h.words_are;
@@ -187,5 +197,5 @@ head_moves opened limits s g h id v at live hand kind o n small held may =
       small = h.small;
       formed = h.formed;
       parts = subst (λ (ws : Words). Parts opened limits ws s.homes (set s.views id (head_stored kind v o n)) g) (sym (stored s.words h.words_are (head o) n there))
-          (head_keeps opened limits (words_of s.words) s.homes s.views g h.parts id v at live kind o n held may);
+          (head_keeps opened limits (words_of s.words) s.homes s.views g h.parts id v at live kind o n held may often);
     }

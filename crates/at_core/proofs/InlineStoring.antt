@@ -26,6 +26,7 @@ use Rattle.at_core.specs.Locks.{lock_word, slot_of, copy_at}
 use Rattle.at_core.specs.Reads.{row_read, looks_read}
 use Rattle.at_core.specs.Rule.{Slot, Board, Homes, HeadRule, LookRule, Ghost, IsLock, SlotRule, Parts, Holds, shape_under, listed, words_of, heads_of, row_locks_of, keys_of, values_of, row_words}
 use Rattle.at_core.specs.Steps.{mark}
+use Rattle.at_core.proofs.OpeningCounts.{no_fewer, openings_left}
 use Rattle.at_core.proofs.WordLemmas.{updated_here, updated_else, stored}
 use Rattle.at_core.proofs.HeadFrames.{odd_even, listed_set}
 use Rattle.at_core.proofs.Parts.{left_alone, known_left}
@@ -95,6 +96,7 @@ module _ (opened : World) (limits : Limits) (words : Words) (homes : Homes) (vie
         heads_are = heads_after;
         open_are = λ k. open_left opened limits words homes views g p id v at live o may.held new_words (mark kinds.InlineStore (inline_value o i) None (Some n)) k (heads_of words k) (p.headed.open_are k);
         rows_are = p.headed.rows_are;
+        openings = λ k. openings_left k (heads_of words k) views id v w at (no_fewer k v w _ refl refl) (p.headed.openings k);
         keys = p.headed.keys;
         cells = cells_after;
         known = known_left views id v w at (keys_of words) refl p.headed.known;

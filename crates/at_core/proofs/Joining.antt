@@ -26,6 +26,8 @@ use Rattle.at_core.specs.Locks.{lock_word, slot_of, hold_of}
 use Rattle.at_core.specs.Reads.{PastRead, past_read, fresh_read, KinRead, kin_read, births_of, NumberRead, number_read, HolderRead, holder_read, kept_read, TypesRead, types_read, row_read, open_read, known_read, looks_read, sequence_read, join_read, limit_read}
 use Rattle.at_core.specs.Rule.{Homes, Each, weight, is_born, has_number, HistoryRule, KinRule, LockRule, NumberRule, SlotRule, KeptBy, TypesCopied, TypesRule, SequenceRule, Ghost, Parts, IsLock, heads_of, keys_of, own_sequences_of, types_words, row_words, shape_under}
 use Rattle.at_core.specs.Steps.{MayJoin, lists_joined, merged, without}
+use Rattle.at_core.specs.Openings.{openings_of}
+use Rattle.at_core.proofs.OpeningCounts.{merged_openings}
 use Rattle.at_core.proofs.Lists.{each_set, each_other, there, sum_set, sum_has, map_set, map_back}
 use Rattle.at_core.proofs.Counts.{weight_same, weight_other, times_cons, times_append, times_without, weight_set, count_set_free}
 use Rattle.at_core.proofs.Prefixes.{prefix_self, prefix_trans, prefix_length, prefix_shorter}
@@ -308,6 +310,12 @@ module _ (opened : World) (limits : Limits) (words : Words) (homes : Homes) (vie
           (p.headed.open_are o odd id (open_read o v) (at_map (open_read o) views id v at))
           (λ row types found. absurd (true≢false (sym row)));
       rows_are = p.headed.rows_are;
+      openings = λ o.
+          let e = ap (sum_by (λ (n : ℕ). n)) (mapped (openings_of o)) in
+          let s = sums (openings_of o) (λ (n : ℕ). n) in
+          let both = merged_openings o v w in
+          let r = p.headed.openings o in
+          omega (arith, e, s, both, r);
       keys = p.headed.keys;
       cells = p.headed.cells;
       known = each_after known_read (λ i known. (k : ℕ) → HaveGrown (slice_index (keys_at k known)) (keys_of words k)) p.headed.known (p.headed.known id v.known (at_map known_read views id v at)) (none_known (keys_of words) [] refl);

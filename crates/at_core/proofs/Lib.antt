@@ -2,6 +2,7 @@ pub mod Lists
 pub mod Prefixes
 pub mod WordLemmas
 pub mod LockLemmas
+pub mod OpeningCounts
 pub mod Parts
 pub mod HeadFrames
 pub mod Taking

@@ -227,6 +227,7 @@ module _ (opened : World) (limits : Limits) (a : Core) (allowed : IsAllowed limi
       };
       open_are = λ k odd. let z = head_at_first k in absurd (odd_even (heads_of (words_of opening_words) k) odd (omega arith));
       rows_are = λ k h. absurd (no_dictionary (heads_of (words_of opening_words) k) (head_at_first k) h);
+      openings = λ k. let z = head_at_first k in omega arith;
       keys = λ c. record {
         small = λ i. let z = key_at_first c i in omega arith;
         past = λ i le. key_at_first c i;

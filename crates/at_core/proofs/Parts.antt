@@ -19,6 +19,8 @@ use Rattle.at_core.specs.declared.lock.Lock.TheVariants as locks
 use Rattle.at_core.specs.Reads.{PastRead, past_read, fresh_read, kin_read, number_read, HolderRead, holder_read, kept_read, types_read, row_read, open_read, known_read, looks_read, sequence_read, join_read, limit_read}
 use Rattle.at_core.specs.Locks.{lock_word, slot_of}
 use Rattle.at_core.specs.Rule.{Homes, Each, HistoryRule, RoomRule, KinRule, LockRule, NumberRule, KeptRule, TypesRule, RowRule, JoinRule, LimitRule, SlotRule, OpenRule, KnownRule, LookRule, SequenceRule, Ghost, HeadParts, Parts, heads_of, row_locks_of, keys_of, values_of, own_sequences_of, types_words, row_words, shape_under}
+use Rattle.at_core.specs.Openings.{openings_of}
+use Rattle.at_core.proofs.OpeningCounts.{openings_left}
 use Rattle.at_core.proofs.Lists.{each_set, each_other, there, sum_set, map_set, map_same}
 
 -- a part over what it reads of views, of which one changes: where the read is the same, and where it isn't
@@ -91,6 +93,7 @@ pub record Alike (v w : View) : Type 0 where
   pub row : (o : ℕ) → row_read o w ≡ row_read o v
   pub joins : join_read w ≡ join_read v
   pub limited : limit_read w ≡ limit_read v
+  pub openings : (o : ℕ) → openings_of o v ≤ openings_of o w
 
 -- the words that a step leaves
 pub record Leaves (words after : Words) : Type 0 where
@@ -148,6 +151,7 @@ alike_keeps opened limits words after homes views g id v w p at a live e known l
             heads_are = h.heads_are;
             open_are = λ o. left_alone (open_read o) (OpenRule (replay opened g.history) o (heads_of words o)) views id v w at (open_same o v w (a.holder (locks.Row o)) (a.holder locks.Types)) (h.open_are o);
             rows_are = h.rows_are;
+            openings = λ o. openings_left o (heads_of words o) views id v w at (a.openings o) (h.openings o);
             keys = h.keys;
             cells = h.cells;
             known = known;

@@ -18,6 +18,7 @@ use Rattle.at_core.specs.Locks.{lock_word, hold_of}
 use Rattle.at_core.specs.PlaceSteps.{place_loaded}
 use Rattle.at_core.specs.Reads.{past_read, fresh_read, kin_read, NumberRead, number_read, holder_read, kept_read, types_read, row_read, join_read, limit_read, open_read}
 use Rattle.at_core.specs.Rule.{Slot, Board, Homes, Each, weight, HistoryRule, RoomRule, KinRule, LockRule, NumberRule, KeptBy, KeptRule, TypesRule, RowRule, JoinRule, LimitRule, OpenRule, Ghost, Parts, Holds, words_of, heads_of, keys_of, own_sequences_of, types_words, row_words}
+use Rattle.at_core.proofs.OpeningCounts.{no_fewer, openings_left}
 use Rattle.at_core.proofs.Lists.{each_set, map_same}
 use Rattle.at_core.proofs.Counts.{at_most_one}
 use Rattle.at_core.proofs.Prefixes.{prefix_self, prefix_trans, prefix_length}
@@ -97,6 +98,7 @@ module _ (opened : World) (limits : Limits) (words : Words) (homes : Homes) (vie
       heads_are = p.headed.heads_are;
       open_are = λ o. left_alone (open_read o) (OpenRule (replay opened g.history) o (heads_of words o)) views id v w at (open_same o v w (holder_same (locks.Row o)) (holder_same locks.Types)) (p.headed.open_are o);
       rows_are = p.headed.rows_are;
+      openings = λ k. openings_left k (heads_of words k) views id v w at (no_fewer k v w _ refl refl) (p.headed.openings k);
       keys = p.headed.keys;
       cells = p.headed.cells;
       known = known_left views id v w at (keys_of words) refl p.headed.known;

@@ -1,5 +1,5 @@
 -- Steps that leave all locks and writes keep the rule: loads, and stores of words that are a pass's own.
-use Rattle.std.proofs.Common.{◌≡◌, ◌≢◌, ℕ, ◌<◌, ◌≤◌, true, false, true≢false, IsTrue, List, [], map, set, ne_eqb, refl, sym, ap, ◌∙◌, subst, arith, length-set}
+use Rattle.std.proofs.Common.{◌≡◌, ◌≢◌, ℕ, ◌<◌, ◌≤◌, true, false, true≢false, IsTrue, List, [], ◌∷◌, ◌++◌, map, set, ne_eqb, refl, sym, ap, ◌∙◌, subst, arith, length-set}
 use Rattle.std.specs.Prelude.{All}
 use Rattle.std.proofs.lemmas.List.Elements.{All-nil}
 use Rattle.std.proofs.lemmas.Bool.Decides.{nat_tests}
@@ -10,6 +10,7 @@ use Rattle.atomic_table.proofs.Lists.{at_map}
 use Rattle.at_value.specs.declared.limits.Limits.{Limits}
 use Rattle.at_model.specs.World.{World}
 use Rattle.at_value.specs.declared.operation.Op as op
+use Rattle.at_view.specs.declared.mark.Mark.{Mark}
 use Rattle.at_view.specs.declared.view.View.{View}
 use Rattle.at_view.specs.Counts.{passes, intent_words}
 use Rattle.at_view.specs.Words.{Word, Words, is_there, number_of, place, intent, global_sequence, own_sequence, updated}
@@ -22,6 +23,7 @@ use Rattle.at_core.specs.Rule.{Slot, Board, Ghost, Parts, Holds, KnownRule, Look
 use Rattle.at_core.specs.Steps.{global_loaded, gone_online, gone_offline}
 use Rattle.at_core.specs.PlaceSteps.{intent_stored, unwritten}
 use Rattle.at_core.specs.HeadSteps.{head_loaded, inline_loaded, key_loaded}
+use Rattle.at_core.proofs.OpeningCounts.{no_fewer}
 use Rattle.at_core.proofs.Lists.{each_set, map_back}
 use Rattle.at_core.proofs.LivePasses.{one_number, number_small}
 use Rattle.at_core.proofs.SequenceSteps.{sequence_loaded, sequence_stored}
@@ -38,6 +40,7 @@ pub record IsQuiet (v w : View) : Type 0 where
   pub holds : w.holds ≡ v.holds
   pub rows : w.rows ≡ v.rows
   pub kept : w.kept ≡ v.kept
+  pub trace : (m : Mark) × (w.trace ≡ v.trace ++ m ∷ [])
 
 quiet_holder : (v w : View) → IsQuiet v w → (l : lock.Lock) → holder_read l w ≡ holder_read l v
 quiet_holder v w q locks.Types = λ i. record { number = (q.who i).number; held = (q.types i).hold.held }
@@ -62,31 +65,32 @@ quiet_alike v w q = record {
   row = λ o i. record { held = (hold_at o (q.holds i)).held; words = copy_at o (q.rows i) };
   joins = q.joined;
   limited = λ i. record { live = (q.who i).live; limits = (q.who i).limits };
+  openings = λ o. no_fewer o v w q.trace.0 q.trace.1 q.kept;
 }
 
 pub load_quiet : (v : View) (n : ℕ) → IsQuiet v (global_loaded v n)
-load_quiet v n = record { who = refl; history = refl; joined = refl; fresh = refl; types = refl; holds = refl; rows = refl; kept = refl }
+load_quiet v n = record { who = refl; history = refl; joined = refl; fresh = refl; types = refl; holds = refl; rows = refl; kept = refl; trace = (_, refl) }
 
 pub online_quiet : (v : View) → IsQuiet v (gone_online v)
-online_quiet v = record { who = refl; history = refl; joined = refl; fresh = refl; types = refl; holds = refl; rows = refl; kept = refl }
+online_quiet v = record { who = refl; history = refl; joined = refl; fresh = refl; types = refl; holds = refl; rows = refl; kept = refl; trace = (_, refl) }
 
 pub offline_quiet : (v : View) → IsQuiet v (gone_offline v)
-offline_quiet v = record { who = refl; history = refl; joined = refl; fresh = refl; types = refl; holds = refl; rows = refl; kept = refl }
+offline_quiet v = record { who = refl; history = refl; joined = refl; fresh = refl; types = refl; holds = refl; rows = refl; kept = refl; trace = (_, refl) }
 
 pub unwritten_quiet : (v : View) (n : ℕ) → IsQuiet v (unwritten v n)
-unwritten_quiet v n = record { who = refl; history = refl; joined = refl; fresh = refl; types = refl; holds = refl; rows = refl; kept = refl }
+unwritten_quiet v n = record { who = refl; history = refl; joined = refl; fresh = refl; types = refl; holds = refl; rows = refl; kept = refl; trace = (_, refl) }
 
 pub intent_quiet : (v : View) (j n : ℕ) → IsQuiet v (intent_stored v j n)
-intent_quiet v j n = record { who = refl; history = refl; joined = refl; fresh = refl; types = refl; holds = refl; rows = refl; kept = refl }
+intent_quiet v j n = record { who = refl; history = refl; joined = refl; fresh = refl; types = refl; holds = refl; rows = refl; kept = refl; trace = (_, refl) }
 
 pub head_quiet : (v : View) (o : ℕ) (at : List op.Op) (n : ℕ) → IsQuiet v (head_loaded v o at n)
-head_quiet v o at n = record { who = refl; history = refl; joined = refl; fresh = refl; types = refl; holds = refl; rows = refl; kept = refl }
+head_quiet v o at n = record { who = refl; history = refl; joined = refl; fresh = refl; types = refl; holds = refl; rows = refl; kept = refl; trace = (_, refl) }
 
 pub inline_quiet : (v : View) (o i : ℕ) (keys_are : ℕ → ℕ → ℕ) (n : ℕ) → IsQuiet v (inline_loaded v o i keys_are n)
-inline_quiet v o i keys_are n = record { who = refl; history = refl; joined = refl; fresh = refl; types = refl; holds = refl; rows = refl; kept = refl }
+inline_quiet v o i keys_are n = record { who = refl; history = refl; joined = refl; fresh = refl; types = refl; holds = refl; rows = refl; kept = refl; trace = (_, refl) }
 
 pub key_quiet : (v : View) (c i : ℕ) (known : List ℕ) (n : ℕ) → IsQuiet v (key_loaded v c i known n)
-key_quiet v c i known n = record { who = refl; history = refl; joined = refl; fresh = refl; types = refl; holds = refl; rows = refl; kept = refl }
+key_quiet v c i known n = record { who = refl; history = refl; joined = refl; fresh = refl; types = refl; holds = refl; rows = refl; kept = refl; trace = (_, refl) }
 
 -- a word of an intended operation is stored
 intent_leaves : (words : Words) (q j n : ℕ) → Leaves words (updated words (intent q j) n)

@@ -25,6 +25,8 @@ use Rattle.at_core.specs.Locks.{lock_word, slot_of, hold_of}
 use Rattle.at_core.specs.Reads.{PastRead, past_read, fresh_read, KinRead, kin_read, NumberRead, number_read, HolderRead, holder_read, kept_read, TypesRead, types_read, row_read, open_read, known_read, looks_read, SequenceRead, sequence_read, join_read, limit_read}
 use Rattle.at_core.specs.Rule.{Homes, Each, weight, is_born, has_number, HistoryRule, RoomRule, KinRule, LockRule, NumberRule, SlotRule, KeptBy, TypesCopied, TypesRule, SequenceRule, Ghost, Parts, IsLock, heads_of, keys_of, own_sequences_of, types_words, row_words, shape_under}
 use Rattle.at_core.specs.Steps.{MaySplit, next_number, lists_parted, parted, child}
+use Rattle.at_core.specs.Openings.{openings_of}
+use Rattle.at_core.proofs.OpeningCounts.{no_fewer, openings_left}
 use Rattle.at_core.proofs.Lists.{each_set, each_other, each_snoc, sum_set, sum_has, sum_le, map_set, map_same, map_snoc, map_back}
 use Rattle.at_core.proofs.HeadFrames.{none_known, none_backed}
 use Rattle.at_core.proofs.SequenceSteps.{sequence_grown}
@@ -216,6 +218,11 @@ module _ (opened : World) (limits : Limits) (words : Words) (homes : Homes) (vie
           (p.headed.open_are o odd id (open_read o v) (at_map (open_read o) views id v at))
           (λ j row types found. absurd (true≢false (sym row)));
       rows_are = p.headed.rows_are;
+      openings = λ o.
+          let e = ap (sum_by (λ (n : ℕ). n)) (map_snoc (openings_of o) (set views id m) c) in
+          let s = sum_by_push (λ (n : ℕ). n) (map (openings_of o) (set views id m)) (openings_of o c) in
+          let r = openings_left o (heads_of words o) views id v m at (no_fewer o v m _ refl refl) (p.headed.openings o) in
+          omega (arith, e, s, r);
       keys = p.headed.keys;
       cells = p.headed.cells;
       known = each_grown known_read (λ i known. (k : ℕ) → HaveGrown (slice_index (keys_at k known)) (keys_of words k)) p.headed.known (p.headed.known id v.known (at_map known_read views id v at)) (λ j. none_known (keys_of words) [] refl);

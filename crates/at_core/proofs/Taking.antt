@@ -22,6 +22,7 @@ use Rattle.at_core.specs.Locks.{lock_word, slot_of, hold_of, holds, copy_at, IsU
 use Rattle.at_core.specs.Reads.{past_read, fresh_read, kin_read, number_read, holder_read, kept_read, types_read, row_read, open_read, known_read, sequence_read, join_read, limit_read}
 use Rattle.at_core.specs.Rule.{Homes, HistoryRule, RoomRule, KinRule, LockRule, NumberRule, SlotRule, KeptBy, KeptRule, TypesCopied, TypesRule, RowRule, JoinRule, LimitRule, Ghost, Parts, IsLock, OpenRule, KnownRule, SequenceRule, HeadParts, heads_of, row_locks_of, keys_of, values_of, own_sequences_of, types_words, row_words, shape_under}
 use Rattle.at_core.specs.Steps.{Moment, mark, keys_of_class, taken, missed}
+use Rattle.at_core.proofs.OpeningCounts.{no_fewer, openings_left}
 use Rattle.at_core.proofs.Lists.{each_set, each_one}
 use Rattle.at_core.proofs.Prefixes.{prefix_self, prefix_trans, prefix_length, prefix_whole}
 use Rattle.at_core.proofs.WordLemmas.{updated_here}
@@ -52,7 +53,7 @@ module _ (opened : World) (limits : Limits) (words : Words) (homes : Homes) (vie
   -- a lock is found held
   pub miss_keeps : (l : lock.Lock) (n : ℕ) → Parts opened limits words homes (set views id (missed l v n)) g
   miss_keeps l n = alike_keeps opened limits words words homes views g id v (missed l v n) p at
-      (record { past = refl; fresh = refl; kin = refl; number = refl; holder = λ k i. record { number = v.who.number; held = (hold_marked k v (miss l n) i).held }; kept = λ k i. record { hold = hold_marked k v (miss l n) i; seen = v.history.seen; own = v.history.own }; types = refl; row = λ o. refl; joins = refl; limited = refl })
+      (record { past = refl; fresh = refl; kin = refl; number = refl; holder = λ k i. record { number = v.who.number; held = (hold_marked k v (miss l n) i).held }; kept = λ k i. record { hold = hold_marked k v (miss l n) i; seen = v.history.seen; own = v.history.own }; types = refl; row = λ o. refl; joins = refl; limited = refl; openings = λ o. no_fewer o v (missed l v n) (miss l n) refl refl })
       live (leaves_all words)
       (known_left views id v (missed l v n) at (keys_of words) refl p.headed.known)
       (looks_left views id v (missed l v n) at opened (heads_of words) (keys_of words) g.history refl p.headed.looks)
@@ -192,6 +193,7 @@ module _ (opened : World) (limits : Limits) (words : Words) (homes : Homes) (vie
           heads_are = heads_locked opened (heads_of words) (row_locks_of words) (row_locks_of after) (keys_of words) (values_of words) g.history views p.headed still_owned;
           open_are = λ o. open_changed opened (heads_of words) g.history views id w o (p.headed.open_are o) (open_after o);
           rows_are = p.headed.rows_are;
+          openings = λ o. openings_left o (heads_of words o) views id v w at (no_fewer o v w _ refl refl) (p.headed.openings o);
           keys = p.headed.keys;
           cells = p.headed.cells;
           known = changed known_read (KnownRule (keys_of words)) views id w (each_set (λ i known. (c : ℕ) → HaveGrown (slice_index (keys_at c known)) (keys_of words c)) (map known_read views) id w.known p.headed.known (known_after l refl));

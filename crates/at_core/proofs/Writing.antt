@@ -1,6 +1,6 @@
 -- Both commits, and the two stores of a head, from what they ask.
-use Rattle.std.proofs.Common.{◌≡◌, ◌≢◌, inr, ℕ, suc, ◌<◌, ◌≤◌, ◌&&◌, Bool, true, false, true≢false, IsTrue, List, [], ◌∷◌, ◌++◌, length, refl, sym, ap, ◌∙◌, subst, arith}
-use Rattle.std.specs.Prelude.{Some, Contains, nat_lt, slice_index, slice_index_or, slice_get, if◌then◌else◌}
+use Rattle.std.proofs.Common.{◌≡◌, ◌≢◌, inr, ℕ, suc, ◌+◌, ◌*◌, map, set, ◌<◌, ◌≤◌, ◌&&◌, Bool, true, false, true≢false, IsTrue, List, [], ◌∷◌, ◌++◌, length, refl, sym, ap, ◌∙◌, subst, arith}
+use Rattle.std.specs.Prelude.{Some, None, Contains, nat_lt, sum_by, slice_index, slice_index_or, slice_get, if◌then◌else◌}
 use Rattle.std.proofs.lemmas.Bool.Decides.{nat_tests}
 use Rattle.std.proofs.lemmas.Option.{none-some, same_Some}
 use mathlib.Core.Option.{some}
@@ -31,8 +31,10 @@ use Rattle.at_core.specs.Locks.{hold_of, holds, copy_at, IsUnchanged}
 use Rattle.at_core.specs.PlaceSteps.{Covers, MayCommit, MayCommitIf, written}
 use Rattle.at_core.specs.Reads.{kept_read, row_read, known_read}
 use Rattle.at_core.specs.Rule.{Slot, Board, Ghost, Holds, words_of, heads_of, keys_of, values_of, row_words}
-use Rattle.at_core.specs.Steps.{copied_heads}
+use Rattle.at_core.specs.Openings.{openings_of}
+use Rattle.at_core.specs.Steps.{mark, copied_heads}
 use Rattle.at_core.specs.Writes.{IsSameAt}
+use Rattle.at_core.proofs.OpeningCounts.{marked_openings, no_fewer, openings_left, openings_raised, counts_one}
 use Rattle.at_core.proofs.Prefixes.{prefix_self, prefix_trans, prefix_whole}
 use Rattle.at_core.proofs.Written.{get_or-same}
 use Rattle.at_core.proofs.HeldStays.{held_writes_stay}
@@ -56,6 +58,10 @@ next_row h even = omega (arith, even)
 
 next_sequence : (h : ℕ) → IsWhole h → sequence_of (suc h) ≡ suc (sequence_of h)
 next_sequence h even = omega (arith, even)
+
+-- an even number that is at most one more than twice a number is at most twice it
+even_bound : (word n : ℕ) → IsWhole word → sequence_of word ≤ suc (2 * n) → sequence_of word ≤ 2 * n
+even_bound word n even le = omega (arith, even, le)
 
 -- words that the table doesn't have say 0
 pub no_value : (ws : List ℕ) (o j : ℕ) → inline_values ≤ j → values_of (words_of ws) o j ≡ 0
@@ -140,6 +146,12 @@ module _ (opened : World) (limits : Limits) (s : Board) (g : Ghost) (h : Holds o
           stays = λ had. next_layout copy may.whole ∙ had;
           named = λ has. inr (o, may.held, sym (next_layout copy may.whole) ∙ has, sym (next_row copy may.whole));
         })
+        (let m = mark kinds.HeadOpen (head o) None (Some (suc copy)) in
+        let w = head_opened v o in
+        openings_raised o (heads_of (words_of s.words) o) (suc copy) s.views id v w at
+        (marked_openings o v w m refl refl ∙ ap (λ (n : ℕ). openings_of o v + n) (counts_one o m refl refl))
+        (next_sequence copy may.whole ∙ ap (λ (n : ℕ). suc (sequence_of n)) is)
+        (h.parts.headed.openings o))
       where
         class_then : (copy : ℕ) → copy ≡ heads_of (words_of s.words) o → IsWhole copy → (found : Object) → slice_get (replay opened g.history).objects o ≡ Some found → found.class ≡ class_of (suc copy)
         class_then copy is whole found has =
@@ -164,6 +176,9 @@ module _ (opened : World) (limits : Limits) (s : Board) (g : Ghost) (h : Holds o
           stays = may.stays;
           named = may.named;
         })
+        (let left = openings_left o (heads_of (words_of s.words) o) s.views id v (head_closed v o word) at (no_fewer o v (head_closed v o word) _ refl refl) (h.parts.headed.openings o) in
+        let whole = may.whole in
+        even_bound word (sum_by (λ (k : ℕ). k) (map (openings_of o) (set s.views id (head_closed v o word)))) whole (let b = left in omega (arith, b, n, e)))
       where
         kept : IsUnchanged (locks.Row o) (replay opened (hold_of (locks.Row o) v).since) (replay opened g.history)
         kept =

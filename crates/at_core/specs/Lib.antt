@@ -2,6 +2,7 @@ pub mod Heads
 pub mod Inline
 pub mod Looks
 pub mod Locks
+pub mod Openings
 pub mod Writes
 pub mod Reads
 pub mod Rule

@@ -1,7 +1,7 @@
 -- The rule of the shared table: what is true of its words, of the values at home and of all views between any two steps.
 -- Each part is a definition of its own, over what it reads and no more. Beside the state stands what exists in proofs
 -- alone: the history, and the lists that the types have or the holder of their lock.
-use Rattle.std.specs.Prelude.{ℕ, zero, suc, ◌≡◌, ◌≢◌, ◌+◌, ◌<◌, ◌≤◌, ◌==◌, ◌&&◌, ◌^◌, nat_lt, Bool, true, false, IsTrue, List, [], ◌∷◌, length, map, count_by, sum_by, All, Option, Some, slice_index, slice_index_or, slice_get, if◌then◌else◌}
+use Rattle.std.specs.Prelude.{ℕ, zero, suc, ◌≡◌, ◌≢◌, ◌+◌, ◌*◌, ◌<◌, ◌≤◌, ◌==◌, ◌&&◌, ◌^◌, nat_lt, Bool, true, false, IsTrue, List, [], ◌∷◌, length, map, count_by, sum_by, All, Option, Some, slice_index, slice_index_or, slice_get, if◌then◌else◌}
 use mathlib.Core.Option.{some, none}
 use mathlib.Core.Option as maybe
 use mathlib.Core.List.{IsPrefix}
@@ -32,10 +32,11 @@ use Rattle.at_core.specs.declared.lock.Lock as lock
 use Rattle.at_core.specs.declared.lock.Lock.TheVariants as locks
 use Rattle.at_core.specs.declared.stored.Stored.{Stored}
 use Rattle.at_core.specs.declared.stored.Stored.TheVariants as stored
-use Rattle.at_core.specs.Heads.{Shape, shape_of, class_of, HasDictionary, IsHead, IsWhole, IsOpened}
+use Rattle.at_core.specs.Heads.{Shape, shape_of, class_of, HasDictionary, IsHead, IsWhole, IsOpened, sequence_of}
 use Rattle.at_core.specs.Inline.{AreKeys, HaveGrown, IsCell, IsHeadOf}
 use Rattle.at_core.specs.Looks.{keys_at, IsBacked}
 use Rattle.at_core.specs.Locks.{lock_word, slot_of, Protects, Excludes}
+use Rattle.at_core.specs.Openings.{openings_of}
 use Rattle.at_core.specs.Reads.{PastRead, past_read, fresh_read, KinRead, kin_read, NumberRead, number_read, HolderRead, holder_read, KeptRead, kept_read, TypesRead, types_read, RowRead, row_read, OpenRead, open_read, known_read, looks_read, SequenceRead, sequence_read, join_read, LimitRead, limit_read}
 
 -- a slot: none while the pass that has it out has its value too
@@ -164,6 +165,10 @@ KnownRule keys_are views = Each (λ i known. (c : ℕ) → HaveGrown (slice_inde
 abbrev pub LookRule : World → (ℕ → ℕ) → (ℕ → ℕ → ℕ) → List op.Op → List (List HeadLook) → Type 0
 LookRule opened heads keys_are history views = Each (λ i looks. All (λ look. IsBacked opened (heads look.object) keys_are history look) looks) views
 
+-- the sequence of a head is at most twice the number of its openings
+abbrev pub OpeningRule : ℕ → List ℕ → Type 0
+OpeningRule word openings = sequence_of word ≤ 2 * sum_by (λ n. n) openings
+
 -- Base 4: what held locks keep
 
 -- What the lock protects is as it was when the pass took it, or as its own last write left it, which it has seen; and no other
@@ -265,6 +270,7 @@ pub record HeadParts (opened : World) (heads rows : ℕ → ℕ) (keys_are value
   pub heads_are : (o : ℕ) → HeadRule (replay opened history) o (rows o) (heads o) keys_are (values_are o)
   pub open_are : (o : ℕ) → OpenRule (replay opened history) o (heads o) (map (open_read o) views)
   pub rows_are : RowsAre heads
+  pub openings : (o : ℕ) → OpeningRule (heads o) (map (openings_of o) views)
   pub keys : (c : ℕ) → AreKeys (keys_are c)
   pub cells : (o i : ℕ) → IsCell (values_are o i)
   pub known : KnownRule keys_are (map known_read views)
