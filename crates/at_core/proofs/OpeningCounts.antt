@@ -1,6 +1,6 @@
 -- No step makes the openings of a head fewer.
-use Rattle.std.proofs.Common.{◌≡◌, ℕ, suc, ◌+◌, ◌*◌, ◌≤◌, ◌==◌, ◌&&◌, List, [], ◌∷◌, ◌++◌, map, set, eq-eqb, refl, sym, ap, ◌∙◌, subst, arith}
-use Rattle.std.specs.Prelude.{None, count_by, sum_by}
+use Rattle.std.proofs.Common.{◌≡◌, ℕ, suc, ◌+◌, ◌≤◌, List, [], ◌∷◌, ◌++◌, map, set, eq-eqb, refl, ap, ◌∙◌, arith}
+use Rattle.std.specs.Prelude.{None, sum_by}
 use Rattle.std.proofs.lemmas.List.Sums.{sum_by-cons, sum_by-append}
 use mathlib.Core.Option.{some}
 use lib.ListN.{get_elem?}
@@ -15,7 +15,6 @@ use Rattle.at_core.specs.Openings.{is_opening, openings_in, openings_of}
 use Rattle.at_core.specs.Rule.{weight, OpeningRule}
 use Rattle.at_core.specs.Steps.{mark, merged}
 use Rattle.at_core.proofs.Lists.{sum_set, map_set}
-use Rattle.at_core.proofs.Counts.{at_most_one}
 
 -- one mark more
 openings_more : (o : ℕ) (marks : List Mark) (m : Mark) → openings_in o (marks ++ m ∷ []) ≡ openings_in o marks + weight (is_opening o m)
