@@ -240,14 +240,17 @@ fn class(n: u16) -> Class {
     Class::new(n).unwrap_or(Class::object())
 }
 
+/// The name of this number, or `__init__` where there is none.
 pub fn name(n: u16) -> Name {
     Name::new(n).unwrap_or(Name::init())
 }
 
+/// The object of this number, or a fault where there is none.
 pub fn object(n: u16) -> Result<Obj, Fail> {
     Ok(Obj::new(n).ok_or("object")?)
 }
 
+/// The change that a line asks for this operation.
 pub fn asks(op: Op) -> Change {
     Change::Asks(LineOp::Of(op))
 }
