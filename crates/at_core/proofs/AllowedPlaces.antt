@@ -26,7 +26,7 @@ use Rattle.at_core.specs.Reads.{fresh_read, kept_read, looks_read, limit_read}
 use Rattle.at_core.specs.Rule.{Slot, Board, Ghost, Holds, Base, weight, words_of, heads_of, keys_of}
 use Rattle.at_core.specs.Writes.{IsSameAt}
 use Rattle.at_core.proofs.Lists.{sum_has}
-use Rattle.at_core.proofs.Prefixes.{prefix_self, prefix_trans}
+use Rattle.at_core.proofs.Prefixes.{prefix_self, prefix_trans, prefix_length}
 use Rattle.at_core.proofs.WordLemmas.{said}
 use Rattle.at_core.proofs.Written.{proper_snoc}
 use Rattle.at_core.proofs.Parts.{seen_begins}
@@ -164,5 +164,12 @@ module _ (opened : World) (limits : Limits) where
         keeps,
         tt,
         record { ghost = g; holds = subst (λ (k : ℕ). Holds opened limits (stepped s (number_of place) k id me.1 (unwritten v k) keeps) g) word (unwritten_moves opened limits s g b.holds id v at live me.1) },
-        λ _ other intends. ((λ found. absurd (busy found)), λ _. refl),
+        λ _ other intends. (
+          λ found. absurd (busy found),
+          λ _. (
+            refl,
+            (let le = prefix_length v.history.seen g.history (seen_begins b.holds.parts id v at) in let c = counted s g b.holds id v at live n refl in omega (arith, le, c, busy)),
+            λ alone. let e = ap length ((saw s g b.holds id v at live).alone alone) in let c = counted s g b.holds id v at live n refl in busy (sym c ∙ e),
+          ),
+        ),
       ))

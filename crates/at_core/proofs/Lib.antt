@@ -36,6 +36,7 @@ pub mod SomeRunValue
 pub mod SomeRun
 pub mod AllowedPlaces
 pub mod AllowedHeads
+pub mod AllowedStores
 pub mod HandOf
 pub mod PassSteps
 pub mod Written

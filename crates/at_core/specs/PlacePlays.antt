@@ -44,9 +44,10 @@ Commits opened st m n m' = st.word ≡ number_of place → (operation : op.Op) �
     → (at : List op.Op) × (length at ≡ n) × (m' ≡ (written kinds.Commit m.0 at operation, m.1)) × Saw opened m.0 at × (n < m.0.who.limits.place_max + passes)
     × IsProper opened (at ++ operation ∷ []) × IsSameAt (replay opened m.0.history.seen) (replay opened at) operation
 
--- So does one at the place that the pass has seen, where that is the place; else it writes nothing.
+-- So does one at the place that the pass has seen, where that is the place. Else it writes nothing: others wrote meanwhile, and the
+-- pass isn't alone.
 abbrev pub CommitsIf : World → Step Slot → Me Slot View → ℕ → Me Slot View → Type 0
 CommitsIf opened st m n m' = st.word ≡ number_of place → (operation : op.Op) → Intends m.0 operation
     → (n ≡ length m.0.history.seen → (m' ≡ (written kinds.CommitIf m.0 m.0.history.seen operation, m.1)) × Saw opened m.0 m.0.history.seen
     × IsProper opened (m.0.history.seen ++ operation ∷ []))
-    × (n ≢ length m.0.history.seen → m' ≡ (unwritten m.0 n, m.1))
+    × (n ≢ length m.0.history.seen → (m' ≡ (unwritten m.0 n, m.1)) × (length m.0.history.seen < n) × ¬ IsAlone m.0)

@@ -1,5 +1,5 @@
-//! The steps on the count of writes: the place is loaded, an operation is intended, and a write takes whatever place comes next.
-ghost use Rattle.std.specs.Prelude.{◌≡◌, ◌<◌, ◌+◌, ◌++◌, ◌∷◌, [], List, length};
+//! The steps on the count of writes: the place is loaded, an operation is intended, and a write takes whatever place comes next, or one place and no other.
+ghost use Rattle.std.specs.Prelude.{◌≡◌, ◌≢◌, ◌<◌, ◌+◌, ◌++◌, ◌∷◌, [], List, length};
 ghost use Rattle.at_value.specs.declared.operation.Op as ops;
 ghost use Rattle.at_model.specs.History.{replay, IsProper};
 ghost use Rattle.at_view.specs.declared.mark.StepKind.TheVariants as kinds;
@@ -7,7 +7,8 @@ ghost use Rattle.at_view.specs.Counts.{intent_words, passes};
 ghost use Rattle.at_core.specs.Opened.{opening_of};
 ghost use Rattle.at_core.specs.Passes.{view, IsOf, IsSame, HasSameHand};
 ghost use Rattle.at_core.specs.PlacePlays.{Saw, AreEarlier};
-ghost use Rattle.at_core.specs.PlaceSteps.{place_loaded, intent_stored, written, Intends, MayCommit};
+ghost use Rattle.at_core.specs.Plays.{IsAlone};
+ghost use Rattle.at_core.specs.PlaceSteps.{place_loaded, intent_stored, written, unwritten, Intends, MayCommit, MayCommitIf};
 ghost use Rattle.at_core.specs.Writes.{IsSameAt};
 
 use crate::stored::Stored;
@@ -42,6 +43,16 @@ impl Play<Option<Stored>, View> for CommitPlay {
     ghost use Rattle.at_core.specs.PlacePlays.{Commits};
 
     ghost then = { λ st m. Commits (opening_of m.0.who.limits) st m };
+}
+
+/// What a commit at one place and no other tells.
+pub(crate) struct CommitIfPlay;
+
+impl Play<Option<Stored>, View> for CommitIfPlay {
+    ghost use Rattle.at_core.specs.Opened.{opening_of};
+    ghost use Rattle.at_core.specs.PlacePlays.{CommitsIf};
+
+    ghost then = { λ st m. CommitsIf (opening_of m.0.who.limits) st m };
 }
 
 /// Loads the place: how many writes there are. The pass has then seen the history up to this moment, in which each lock that it
@@ -89,4 +100,27 @@ pub fn commit(world: &World, pass: &mut Pass) -> u64
         .table
         .shared
         .fetch_add::<CommitPlay>(&mut pass.seat, words::PLACE, 1)
+}
+
+/// The intended operation takes the place after all writes that the pass has seen, whose number the caller tells, if that is the
+/// next one. The answer is how many writes there were before: where it is another number, others wrote meanwhile, and nothing is
+/// written. It asks what a commit does but for the lock of the types, that the operation is one which needs no lock of the types,
+/// and that the pass has seen fewer writes than the limit.
+pub fn commit_if(world: &World, pass: &mut Pass, seen: u64) -> u64
+    requires of { IsOf pass.old world.now }
+    requires may { (operation : ops.Op) × MayCommitIf (opening_of world.now.limits) (view pass.old) operation }
+    requires told { seen ≡ length (view pass.old).history.seen }
+    ensures same { IsSame pass.old pass.new × IsOf pass.new world.now × HasSameHand pass.old pass.new }
+    ensures written { result ≡ seen → (operation : ops.Op) → Intends (view pass.old) operation
+        → (view pass.new ≡ written kinds.CommitIf (view pass.old) (view pass.old).history.seen operation)
+        × Saw (opening_of world.now.limits) (view pass.old) (view pass.old).history.seen
+        × IsProper (opening_of world.now.limits) ((view pass.old).history.seen ++ operation ∷ []) }
+    ensures below { result ≡ seen → result < world.now.limits.place_max }
+    ensures unwritten { result ≢ seen → (view pass.new ≡ unwritten (view pass.old) result) × (seen < result) }
+    ensures alone { IsAlone (view pass.old) → result ≡ seen }
+{
+    world
+        .table
+        .shared
+        .compare_exchange::<CommitIfPlay>(&mut pass.seat, words::PLACE, seen, seen + 1)
 }

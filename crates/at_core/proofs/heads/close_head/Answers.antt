@@ -1,0 +1,39 @@
+use Rattle.std.proofs.Common.{◌≡◌, ◌<◌, ℕ, IsTrue, sym, subst, refl, arith}
+use Rattle.std.proofs.lemmas.Bool.Decides.{nat_tests}
+use mathlib.Core.Option.{none}
+use Rattle.atomic_table.specs.Table.{Allows, step}
+use Rattle.at_value.specs.Widths.{objects}
+use Rattle.at_model.specs.World.{opening}
+use Rattle.at_view.specs.Words.{number_of, head, is_there}
+use Rattle.at_view.proofs.WordLaws.{inside}
+use Rattle.at_core.specs.HeadPlays.{ClosesHead}
+use Rattle.at_core.specs.HeadSteps.{head_closed}
+use Rattle.at_core.specs.Rule.{Base}
+use Rattle.at_core.proofs.AllowedStores.{closes_head, held_row}
+use Rattle.at_core.proofs.PassSteps.{pass_after}
+use Rattle.at_core.proofs.heads.close_head.Goals as goal
+
+pub store-requires : goal.store-requires
+store-requires c =
+    let o = c.args.o in
+    let word = c.args.word in
+    let p = c.args.pass.now in
+    let me = p.seat.me in
+    let table = c.args.world.now.table.shared in
+    let small : c.args.o < objects = omega arith in
+    let there : IsTrue (is_there (head o)) = grind (arith, nat_tests, small) in
+    let room : number_of (head o) < table.table_id.words = subst (λ (n : ℕ). number_of (head o) < n) (sym c.args.world.now.sized.0) (inside (head o) there) in
+    let Q : ℕ → Type 0 = λ n. (n < table.table_id.words) × Allows (Base opening table.key) table.table_id.slots p.seat.id me n (λ _. word) (λ _. ClosesHead (step table.table_id.slots n word 0 none) me word) in
+    let owed = subst Q (sym c.head.ensures) (room, closes_head opening table.key table.table_id.slots p.seat.id o word me p.live small c.requires.may) in
+    (c.requires.of.table, owed.0, owed.1)
+
+-- the pass after the step
+closed : (c : goal.After-store) → c.store.new.seat.me ≡ (head_closed c.args.pass.now.seat.me.0 c.args.o c.args.word, c.args.pass.now.seat.me.1)
+closed c = let small : c.args.o < objects = omega arith in c.store.ensures.2 c.args.o small c.head.ensures
+
+pub invariant_of-pass : goal.invariant_of-pass
+invariant_of-pass c =
+    let p = c.args.pass.now in
+    let v = p.seat.me.0 in
+    let f = pass_after p (head_closed v c.args.o c.args.word) p.online c.store.new.seat.me (closed c) (record { live = refl; number = refl; turned = p.turned; holds = λ l. held_row l c.args.o _ _ v }) in
+    record { live = f.live; numbered = f.numbered; turned = f.turned; listed = f.listed; once = f.once; within = f.within; right = f.right }
