@@ -10,7 +10,7 @@ use Rattle.at_core.specs.HeadPlays.{StoresInline}
 use Rattle.at_core.specs.HeadSteps.{inline_stored}
 use Rattle.at_core.specs.Rule.{Base}
 use Rattle.at_core.proofs.AllowedStores.{stores_inline, held_row}
-use Rattle.at_core.proofs.PassSteps.{pass_after}
+use Rattle.at_core.proofs.PassSteps.{pass_after, same_after}
 use Rattle.at_core.proofs.heads.store_inline.Goals as goal
 
 pub store-requires : goal.store-requires
@@ -39,3 +39,9 @@ invariant_of-pass c =
     let v = p.seat.me.0 in
     let f = pass_after p (inline_stored v c.args.o c.args.i c.args.word) p.online c.store.new.seat.me (stored c) (record { live = refl; number = refl; turned = p.turned; holds = λ l. held_row l c.args.o _ _ v }) in
     record { live = f.live; numbered = f.numbered; turned = f.turned; listed = f.listed; once = f.once; within = f.within; right = f.right }
+
+pub returns-clause-same : goal.returns-clause-same
+returns-clause-same c =
+    let small : c.args.o < objects = omega arith in
+    same_after c.args.pass.now _ c.args.world.now (inline_stored c.args.pass.now.seat.me.0 c.args.o c.args.i c.args.word) c.store.ensures.0 c.store.ensures.1 refl
+    (c.store.ensures.2 c.args.o c.args.i small c.requires.may.index c.inline_value.ensures) refl c.requires.of
