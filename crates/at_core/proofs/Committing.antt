@@ -76,7 +76,7 @@ unchanged_trans (locks.Row o) a b c x y = (y.0 ∙ x.0, y.1 ∙ x.1)
 
 -- What is known of a lock after a write
 
-abbrev restamped : List op.Op → Hold → Hold
+abbrev pub restamped : List op.Op → Hold → Hold
 restamped history hold = record hold { since = history }
 
 held_stamped : (history : List op.Op) (o : ℕ) (rows : List RowHold) → (hold_at o (map (stamped history) rows)).held ≡ (hold_at o rows).held
@@ -87,7 +87,7 @@ held_stamped history o (row ∷ rows) = by_test (o == row.object) refl (held_sta
     by_test true e later = ap (λ (t : Bool). (if t then restamped history row.hold else hold_at o (map (stamped history) rows)).held) e ∙ sym (ap (λ (t : Bool). (if t then row.hold else hold_at o rows).held) e)
     by_test false e later = ap (λ (t : Bool). (if t then restamped history row.hold else hold_at o (map (stamped history) rows)).held) e ∙ (later ∙ sym (ap (λ (t : Bool). (if t then row.hold else hold_at o rows).held) e))
 
-hold_stamped : (history : List op.Op) (o : ℕ) (rows : List RowHold) → (hold_at o rows).held ≡ true → hold_at o (map (stamped history) rows) ≡ restamped history (hold_at o rows)
+pub hold_stamped : (history : List op.Op) (o : ℕ) (rows : List RowHold) → (hold_at o rows).held ≡ true → hold_at o (map (stamped history) rows) ≡ restamped history (hold_at o rows)
 hold_stamped history o [] held = absurd (true≢false (sym held))
 hold_stamped history o (row ∷ rows) held = by_test (o == row.object) refl (λ h. hold_stamped history o rows h)
   where

@@ -16,3 +16,4 @@ pub mod Runs
 pub mod Opened
 pub mod Passes
 pub mod SomeRun
+pub mod Trials

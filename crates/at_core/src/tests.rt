@@ -1,16 +1,20 @@
 //! The steps of the core on a world of its own, and the laws. Each call of a law does nothing: its contract is proved.
-ghost use Rattle.std.specs.Prelude.{◌≡◌, ◌<◌, [], length};
+ghost use Rattle.std.specs.Prelude.{◌≡◌, ◌<◌, ◌∷◌, [], true, IfSome, length};
+ghost use Rattle.at_value.specs.Packing.{words_of};
 ghost use Rattle.at_view.specs.Views.{first_view};
+ghost use Rattle.at_core.specs.Heads.{inline};
 ghost use Rattle.at_core.specs.Locks.{HoldsNone};
-ghost use Rattle.at_core.specs.Passes.{view, hand, IsOf, IsSame};
+ghost use Rattle.at_core.specs.Passes.{view, hand, IsOf, IsSame, HasSameHand};
+ghost use Rattle.at_core.specs.SomeRun.{head_of, new_class, new_object};
+ghost use Rattle.at_core.specs.Trials.{eight, IsAt, HasEmptyBody, HasKey, HasWordCopies};
 
-use crate::heads::{load_head, load_inline};
-use crate::keys::load_key;
+use crate::heads::{close_head, load_head, load_inline, open_head, store_inline};
+use crate::keys::{append_key, load_key};
 use crate::locking::{slot_in, slot_out, try_lock, unlock};
-use crate::places::{commit, load_place, store_intent};
+use crate::places::{commit, commit_if, load_place, store_intent};
 use crate::world::MOST_HELD;
 use crate::{Lock, OpenFault, Pass, Stored, World, laws};
-use at_value::{Class, Limits, Obj};
+use at_value::{Class, Limits, Name, Obj};
 
 #[test]
 fn laws_hold() {
@@ -140,5 +144,145 @@ fn words_of_what_is_not_made_are_0(rt: HostRuntime) -> Result<(), OpenFault> {
     assert_eq!(rt; load_head(&world, &mut pass, o), 0);
     assert_eq!(rt; load_inline(&world, &mut pass, o, 7), 0);
     assert_eq!(rt; load_key(&world, &mut pass, Class::new(254).unwrap(), 7), 0);
+    Ok(())
+}
+
+/// Word 0 of the operation that makes an object of class 1; its other words are 0.
+const OBJECT_OF_ONE: u64 = 261;
+
+/// Word 0 of the operation that gives attribute 20 of object 0 a value. Word 1 is that of the value, and the others are 0.
+const SET_20: u64 = 21_990_232_555_526;
+
+/// The word of the value `Nothing`.
+const NOTHING: u64 = 1;
+
+/// The head of object 0 of class 1, with inline values, after it was written once.
+const INLINE: u64 = 282_574_488_338_434;
+
+/// The first pass takes the lock of the types and the row of object 0.
+fn take_both(world: &World, pass: &mut Pass, o: Obj) -> bool
+    requires of { IsOf pass.old world.now }
+    requires number { o ≡ 0 }
+    requires first { view pass.old ≡ first_view world.now.limits }
+    requires empty { hand pass.old ≡ [] }
+    ensures same { IsSame pass.old pass.new × IsOf pass.new world.now }
+    ensures taken { result ≡ true → IsAt [] (0 ∷ 0 ∷ 0 ∷ 0 ∷ []) 0 (eight 0) (view pass.new) }
+    ensures copies { result ≡ true → HasWordCopies (view pass.new) }
+    ensures body { result ≡ true → HasEmptyBody pass.new }
+{
+    if try_lock(world, pass, Lock::Types) != 0 {
+        return false;
+    }
+    try_lock(world, pass, Lock::Row(o)) == 0
+}
+
+/// The pass makes class 1, and gives the place before.
+fn write_class(world: &World, pass: &mut Pass) -> u64
+    requires of { IsOf pass.old world.now }
+    requires taken { IsAt [] (0 ∷ 0 ∷ 0 ∷ 0 ∷ []) 0 (eight 0) (view pass.old) }
+    requires copies { HasWordCopies (view pass.old) }
+    requires room { 0 < world.now.limits.place_max }
+    ensures same { IsSame pass.old pass.new × IsOf pass.new world.now × HasSameHand pass.old pass.new }
+    ensures class { IsAt (new_class ∷ []) (words_of new_class) 0 (eight 0) (view pass.new) }
+    ensures copies { HasWordCopies (view pass.new) }
+{
+    load_place(world, pass);
+    store_intent(world, pass, 0, CLASS_ONE);
+    commit(world, pass)
+}
+
+/// The pass appends the first key of class 1, for name 20, and doesn't where there is a key.
+fn append_first(world: &World, pass: &mut Pass, c: Class, n: Name) -> bool
+    requires of { IsOf pass.old world.now }
+    requires numbers { (c ≡ 1) × (n ≡ 20) }
+    requires class { IsAt (new_class ∷ []) (words_of new_class) 0 (eight 0) (view pass.old) }
+    requires copies { HasWordCopies (view pass.old) }
+    ensures same { IsSame pass.old pass.new × IsOf pass.new world.now × HasSameHand pass.old pass.new }
+    ensures class { IsAt (new_class ∷ []) (words_of new_class) 0 (eight 0) (view pass.new) }
+    ensures key { result ≡ true → HasKey (view pass.new) }
+{
+    if load_key(world, pass, c, 0) != 0 {
+        return false;
+    }
+    append_key(world, pass, c, 0, n);
+    true
+}
+
+/// The pass makes object 0 with inline values, and gives the place before.
+fn make_object(world: &World, pass: &mut Pass, o: Obj) -> u64
+    requires of { IsOf pass.old world.now }
+    requires number { o ≡ 0 }
+    requires class { IsAt (new_class ∷ []) (words_of new_class) 0 (eight 0) (view pass.old) }
+    requires key { HasKey (view pass.old) }
+    requires room { (1 < world.now.limits.place_max) × (0 < world.now.limits.head_max) }
+    ensures same { IsSame pass.old pass.new × IsOf pass.new world.now × HasSameHand pass.old pass.new }
+    ensures object { IsAt (new_class ∷ new_object ∷ []) (words_of new_object) (head_of inline 0) (eight 0) (view pass.new) }
+    ensures key { HasKey (view pass.new) }
+{
+    open_head(world, pass, o, 0);
+    load_place(world, pass);
+    store_intent(world, pass, 0, OBJECT_OF_ONE);
+    let place = commit(world, pass);
+    close_head(world, pass, o, INLINE);
+    place
+}
+
+/// The pass gives attribute 20 of object 0 the value `Nothing`, at the place that it has seen, and then gives the row back. It gives
+/// how many writes it found.
+fn set_value(world: &World, pass: &mut Pass, o: Obj) -> u64
+    requires of { IsOf pass.old world.now }
+    requires number { o ≡ 0 }
+    requires object { IsAt (new_class ∷ new_object ∷ []) (words_of new_object) (head_of inline 0) (eight 0) (view pass.old) }
+    requires key { HasKey (view pass.old) }
+    requires body { HasEmptyBody pass.old }
+    requires room { (2 < world.now.limits.place_max) × (2 < world.now.limits.head_max) }
+    ensures same { IsSame pass.old pass.new × IsOf pass.new world.now }
+    ensures found { result ≡ 2 }
+{
+    open_head(world, pass, o, INLINE);
+    store_intent(world, pass, 0, SET_20);
+    store_intent(world, pass, 1, NOTHING);
+    store_inline(world, pass, o, 0, NOTHING);
+    load_place(world, pass);
+    let found = commit_if(world, pass, 2);
+    close_head(world, pass, o, INLINE + 2);
+    unlock(world, pass, Lock::Row(o));
+    found
+}
+
+/// All of these in turn: gives how many writes the last one found.
+fn make_and_set(world: &World, pass: &mut Pass, o: Obj, c: Class, n: Name) -> Option<u64>
+    requires of { IsOf pass.old world.now }
+    requires numbers { (o ≡ 0) × (c ≡ 1) × (n ≡ 20) }
+    requires first { view pass.old ≡ first_view world.now.limits }
+    requires empty { hand pass.old ≡ [] }
+    requires room { (2 < world.now.limits.place_max) × (2 < world.now.limits.head_max) }
+    ensures same { IsSame pass.old pass.new × IsOf pass.new world.now }
+    ensures found { IfSome result (λ found. found ≡ 2) }
+{
+    if !take_both(world, pass, o) {
+        return None;
+    }
+    write_class(world, pass);
+    if !append_first(world, pass, c, n) {
+        return None;
+    }
+    make_object(world, pass, o);
+    Some(set_value(world, pass, o))
+}
+
+#[test]
+fn an_object_is_given_a_value(rt: HostRuntime) -> Result<(), OpenFault> {
+    let (world, mut pass) = World::open(rt.alloc(), Limits::program())?;
+    let o = Obj::new(0).unwrap();
+    let c = Class::new(1).unwrap();
+    let n = Name::new(20).unwrap();
+    assert_eq!(rt; make_and_set(&world, &mut pass, o, c, n), Some(2));
+    assert_eq!(rt; load_place(&world, &mut pass), 3);
+    assert_eq!(rt; load_head(&world, &mut pass, o), INLINE + 2);
+    assert_eq!(rt; load_key(&world, &mut pass, c, 0), 21);
+    assert_eq!(rt; load_key(&world, &mut pass, c, 1), 0);
+    assert_eq!(rt; load_inline(&world, &mut pass, o, 0), NOTHING);
+    assert_eq!(rt; load_inline(&world, &mut pass, o, 1), 0);
     Ok(())
 }
