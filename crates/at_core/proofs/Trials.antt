@@ -1,5 +1,5 @@
 -- What the steps of the tests' helpers leave, and what they ask.
-use Rattle.std.proofs.Common.{◌≡◌, ◌≢◌, inr, ℕ, zero, suc, ◌+◌, ◌<◌, ◌||◌, Bool, true, false, IsTrue, List, [], ◌∷◌, ◌++◌, length, map, ne_eqb, refl, sym, ap, ◌∙◌, subst, arith}
+use Rattle.std.proofs.Common.{◌≡◌, ◌≢◌, inr, ℕ, zero, suc, ◌+◌, ◌<◌, ◌||◌, Bool, true, false, IsTrue, List, [], ◌∷◌, ◌++◌, length, ne_eqb, refl, sym, ap, ◌∙◌, subst, arith}
 use Rattle.std.specs.Prelude.{Some, None, nat_lt, slice_set, slice_get, slice_index, slice_index_or, if◌then◌else◌}
 use Rattle.std.proofs.lemmas.Bool.Decides.{nat_tests}
 use Rattle.std.proofs.lemmas.Option.{none-some}
@@ -10,27 +10,25 @@ use Rattle.at_value.specs.declared.limits.Limits.{Limits}
 use Rattle.at_value.specs.declared.value.Value.TheVariants as values
 use Rattle.at_value.specs.Packing.{words_of, HasWords}
 use Rattle.at_value.specs.Pairs.{value_at}
-use Rattle.at_model.specs.World.{opening, Map}
+use Rattle.at_model.specs.World.{opening}
 use Rattle.at_model.specs.History.{replay}
 use Rattle.at_model.specs.Step.{is_write}
 use Rattle.at_dict.specs.Dictionary.{Dictionary}
 use Rattle.at_view.specs.declared.mark.StepKind as step_kind
-use Rattle.at_view.specs.declared.mark.StepKind.TheVariants as kinds
 use Rattle.at_view.specs.declared.view.RowWords.{RowWords}
 use Rattle.at_view.specs.declared.view.View.{View}
-use Rattle.at_view.specs.Counts.{keys, inline_values}
-use Rattle.at_view.specs.Words.{Words, key, inline_value}
+use Rattle.at_view.specs.Words.{key, inline_value}
 use Rattle.at_core.specs.declared.lock.Lock.TheVariants as locks
 use Rattle.at_view.specs.Views.{first_view}
 use Rattle.at_core.specs.declared.stored.Stored.{Stored}
 use Rattle.at_core.specs.declared.stored.Stored.TheVariants as stored
-use Rattle.at_core.specs.Heads.{class_of, sequence_of, shape_of, unmade, inline, HasDictionary, IsWhole, IsOpened, IsInline}
+use Rattle.at_core.specs.Heads.{sequence_of, shape_of, unmade, inline, HasDictionary, IsWhole, IsOpened}
 use Rattle.at_core.specs.HeadSteps.{head_opened, head_closed, inline_stored, key_loaded, key_appended, known_keys, copied_values, copied_keys_of, MayOpen, MayClose, MayStore, MayAppend}
 use Rattle.at_core.specs.Inline.{AreKeys, AreValuesOf, IsHeadOf, IsWordUnder}
-use Rattle.at_core.specs.Locks.{hold_of, holds, copy_at}
+use Rattle.at_core.specs.Locks.{hold_of, holds}
 use Rattle.at_core.specs.PlaceSteps.{place_loaded, intent_stored, written, Covers, MayWrite, MayCommit, MayCommitIf}
 use Rattle.at_core.specs.Plays.{IsAlone, RowSays}
-use Rattle.at_core.specs.Rule.{listed, types_words, row_words}
+use Rattle.at_core.specs.Rule.{listed}
 use Rattle.at_core.specs.SomeRun.{new_class, new_object, first_value, head_of}
 use Rattle.at_core.specs.Steps.{Moment, taken, copied_heads, MayGive, ValueAgrees}
 use Rattle.at_core.specs.Trials.{IsAt, eight, HasWordCopies, HasKey}
@@ -345,9 +343,13 @@ may_give_row v h body empty =
     let is = head_is set_to (words_of first_value) (head_of inline 0 + 2) (eight 1) v h in record {
       held = h.row;
       returns = refl;
-      agrees = (body, refl, record {
-        full = λ has. (let z : (shape_of (head_of inline 0 + 2)).layout ≡ 2 = subst (λ (n : ℕ). HasDictionary (shape_of n)) is has in absurd (omega arith));
-        empty = λ none. empty;
-      });
+      agrees = (
+        body,
+        refl,
+        record {
+          full = λ has. (let z : (shape_of (head_of inline 0 + 2)).layout ≡ 2 = subst (λ (n : ℕ). HasDictionary (shape_of n)) is has in absurd (omega arith));
+          empty = λ none. empty;
+        },
+      );
       shut = subst IsWhole (sym is) refl;
     }

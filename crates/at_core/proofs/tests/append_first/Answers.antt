@@ -1,4 +1,4 @@
-use Rattle.std.proofs.Common.{◌≡◌, ℕ, List, [], ◌∷◌, refl, sym, ap, ◌∙◌, subst}
+use Rattle.std.proofs.Common.{◌≡◌, ℕ, [], ◌∷◌, sym, ap, ◌∙◌, subst}
 use Rattle.at_value.specs.Packing.{words_of}
 use Rattle.at_view.specs.declared.view.View.{View}
 use Rattle.at_core.specs.HeadSteps.{MayAppend, key_loaded, key_appended}
@@ -27,7 +27,7 @@ returns-clause-class c =
     let w = key_loaded v c.args.c 0 l.0 c.load_key.result in
     let is : view c.append_key.new.pass ≡ key_appended w c.args.c 0 c.args.n = c.append_key.ensures.appended ∙ ap (λ (x : View). key_appended x c.args.c 0 c.args.n) l.1 in
     subst (IsAt (new_class ∷ []) (words_of new_class) 0 (eight 0)) (sym is)
-        (at_appended (new_class ∷ []) (words_of new_class) 0 (eight 0) w (at_key_loaded (new_class ∷ []) (words_of new_class) 0 (eight 0) v c.requires.class c.args.c 0 l.0 c.load_key.result) c.args.c 0 c.args.n)
+    (at_appended (new_class ∷ []) (words_of new_class) 0 (eight 0) w (at_key_loaded (new_class ∷ []) (words_of new_class) 0 (eight 0) v c.requires.class c.args.c 0 l.0 c.load_key.result) c.args.c 0 c.args.n)
 
 pub returns-clause-key : goal.returns-clause-key
 returns-clause-key c _ =

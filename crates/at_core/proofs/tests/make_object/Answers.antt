@@ -7,10 +7,10 @@ use Rattle.at_core.specs.Heads.{inline}
 use Rattle.at_core.specs.HeadSteps.{MayOpen, MayClose, head_opened, head_closed}
 use Rattle.at_core.specs.Looks.{keys_at}
 use Rattle.at_core.specs.Passes.{view}
-use Rattle.at_core.specs.PlaceSteps.{intent_stored, place_loaded, written}
+use Rattle.at_core.specs.PlaceSteps.{intent_stored, place_loaded}
 use Rattle.at_core.specs.SomeRun.{new_class, new_object, head_of}
 use Rattle.at_core.specs.Steps.{copied_heads}
-use Rattle.at_core.specs.Trials.{IsAt, eight, HasKey}
+use Rattle.at_core.specs.Trials.{IsAt, eight}
 use Rattle.at_core.proofs.Trials.{at_opened, at_closed, head_is, may_open, ready, ready_fresh, done, done_since, may_make_object, may_close_made}
 use Rattle.at_core.proofs.tests.make_object.Goals as goal
 

@@ -1,4 +1,4 @@
-use Rattle.std.proofs.Common.{◌≡◌, ℕ, suc, ◌+◌, List, [], ◌∷◌, refl, sym, ap, ◌∙◌, subst}
+use Rattle.std.proofs.Common.{◌≡◌, ℕ, suc, ◌+◌, List, refl, sym, ap, ◌∙◌, subst}
 use Rattle.std.specs.Prelude.{Some, slice_set}
 use Rattle.at_value.specs.Packing.{words_of}
 use Rattle.at_model.specs.World.{opening}
@@ -10,7 +10,7 @@ use Rattle.at_core.specs.Heads.{inline}
 use Rattle.at_core.specs.HeadSteps.{MayStore, MayClose, head_opened, head_closed, inline_stored}
 use Rattle.at_core.specs.Looks.{keys_at}
 use Rattle.at_core.specs.Passes.{view, slot_at}
-use Rattle.at_core.specs.PlaceSteps.{intent_stored, place_loaded, written}
+use Rattle.at_core.specs.PlaceSteps.{intent_stored}
 use Rattle.at_core.specs.SomeRun.{new_object, first_value, head_of}
 use Rattle.at_core.specs.Steps.{MayGive}
 use Rattle.at_core.specs.Trials.{IsAt, eight, HasKey}
@@ -25,7 +25,7 @@ store_inline-requires-clause-may c =
     let y = view c.store_intent-2.new.pass in
     let intends : y ≡ intent_stored (intent_stored x 0 21990232555526) 1 1 = c.store_intent-2.ensures.stored ∙ ap (λ (z : View). intent_stored z 1 1) c.store_intent.ensures.stored in
     let hy = subst (IsAt made (words_of first_value) (suc (head_of inline 0)) (eight 0)) (sym intends)
-        (at_intended made (slice_set (words_of new_object) 0 21990232555526) (suc (head_of inline 0)) (eight 0) (intent_stored x 0 21990232555526) (at_intended made (words_of new_object) (suc (head_of inline 0)) (eight 0) x h 0 21990232555526) 1 1) in
+    (at_intended made (slice_set (words_of new_object) 0 21990232555526) (suc (head_of inline 0)) (eight 0) (intent_stored x 0 21990232555526) (at_intended made (words_of new_object) (suc (head_of inline 0)) (eight 0) x h 0 21990232555526) 1 1) in
     subst (λ (o : ℕ). MayStore y o 0 1) (sym c.requires.number) (may_store y hy)
 
 pub commit_if-found-requires-clause-may : goal.commit_if-found-requires-clause-may
@@ -36,7 +36,7 @@ commit_if-found-requires-clause-may c =
     let y = view c.store_intent-2.new.pass in
     let intends : y ≡ intent_stored (intent_stored x 0 21990232555526) 1 1 = c.store_intent-2.ensures.stored ∙ ap (λ (z : View). intent_stored z 1 1) c.store_intent.ensures.stored in
     let hy = subst (IsAt made (words_of first_value) (suc (head_of inline 0)) (eight 0)) (sym intends)
-        (at_intended made (slice_set (words_of new_object) 0 21990232555526) (suc (head_of inline 0)) (eight 0) (intent_stored x 0 21990232555526) (at_intended made (words_of new_object) (suc (head_of inline 0)) (eight 0) x h 0 21990232555526) 1 1) in
+    (at_intended made (slice_set (words_of new_object) 0 21990232555526) (suc (head_of inline 0)) (eight 0) (intent_stored x 0 21990232555526) (at_intended made (words_of new_object) (suc (head_of inline 0)) (eight 0) x h 0 21990232555526) 1 1) in
     let stored : view c.store_inline.new.pass ≡ inline_stored y 0 0 1 = c.store_inline.ensures.stored ∙ ap (λ (o : ℕ). inline_stored y o 0 1) c.requires.number in
     let z = view c.store_inline.new.pass in
     let hz = subst (IsAt made (words_of first_value) (suc (head_of inline 0)) (eight 1)) (sym stored) (at_stored made (words_of first_value) (suc (head_of inline 0)) (eight 0) y hy 0 1) in
@@ -56,7 +56,7 @@ close_head-requires-clause-may c =
     let y = view c.store_intent-2.new.pass in
     let intends : y ≡ intent_stored (intent_stored x 0 21990232555526) 1 1 = c.store_intent-2.ensures.stored ∙ ap (λ (z : View). intent_stored z 1 1) c.store_intent.ensures.stored in
     let hy = subst (IsAt made (words_of first_value) (suc (head_of inline 0)) (eight 0)) (sym intends)
-        (at_intended made (slice_set (words_of new_object) 0 21990232555526) (suc (head_of inline 0)) (eight 0) (intent_stored x 0 21990232555526) (at_intended made (words_of new_object) (suc (head_of inline 0)) (eight 0) x h 0 21990232555526) 1 1) in
+    (at_intended made (slice_set (words_of new_object) 0 21990232555526) (suc (head_of inline 0)) (eight 0) (intent_stored x 0 21990232555526) (at_intended made (words_of new_object) (suc (head_of inline 0)) (eight 0) x h 0 21990232555526) 1 1) in
     let stored : view c.store_inline.new.pass ≡ inline_stored y 0 0 1 = c.store_inline.ensures.stored ∙ ap (λ (o : ℕ). inline_stored y o 0 1) c.requires.number in
     let z = view c.store_inline.new.pass in
     let hz = subst (IsAt made (words_of first_value) (suc (head_of inline 0)) (eight 1)) (sym stored) (at_stored made (words_of first_value) (suc (head_of inline 0)) (eight 0) y hy 0 1) in
@@ -82,7 +82,7 @@ unlock-requires-clause-has c =
     let y = view c.store_intent-2.new.pass in
     let intends : y ≡ intent_stored (intent_stored x 0 21990232555526) 1 1 = c.store_intent-2.ensures.stored ∙ ap (λ (z : View). intent_stored z 1 1) c.store_intent.ensures.stored in
     let hy = subst (IsAt made (words_of first_value) (suc (head_of inline 0)) (eight 0)) (sym intends)
-        (at_intended made (slice_set (words_of new_object) 0 21990232555526) (suc (head_of inline 0)) (eight 0) (intent_stored x 0 21990232555526) (at_intended made (words_of new_object) (suc (head_of inline 0)) (eight 0) x h 0 21990232555526) 1 1) in
+    (at_intended made (slice_set (words_of new_object) 0 21990232555526) (suc (head_of inline 0)) (eight 0) (intent_stored x 0 21990232555526) (at_intended made (words_of new_object) (suc (head_of inline 0)) (eight 0) x h 0 21990232555526) 1 1) in
     let stored : view c.store_inline.new.pass ≡ inline_stored y 0 0 1 = c.store_inline.ensures.stored ∙ ap (λ (o : ℕ). inline_stored y o 0 1) c.requires.number in
     let z = view c.store_inline.new.pass in
     let hz = subst (IsAt made (words_of first_value) (suc (head_of inline 0)) (eight 1)) (sym stored) (at_stored made (words_of first_value) (suc (head_of inline 0)) (eight 0) y hy 0 1) in
@@ -100,10 +100,10 @@ unlock-requires-clause-has c =
     let hb = subst (IsAt set_to (words_of first_value) (head_of inline 0 + 2) (eight 1)) (sym closed) (at_closed set_to (words_of first_value) (suc (head_of inline 0)) (eight 1) u hu (head_of inline 0 + 2)) in
     let r = locks.Row 0 in
     let slot : slot_at c.close_head.new.pass r ≡ Some (Some (stores.Body c.requires.body.0)) =
-        c.close_head.ensures.same.2 r ∙ (c.commit_if-found.ensures.same.2 r ∙ (c.load_place.ensures.same.2 r ∙ (c.store_inline.ensures.same.2 r
-        ∙ (c.store_intent-2.ensures.same.2 r ∙ (c.store_intent.ensures.same.2 r ∙ (c.open_head.ensures.same.2 r ∙ c.requires.body.1)))))) in
+    c.close_head.ensures.same.2 r ∙ (c.commit_if-found.ensures.same.2 r ∙ (c.load_place.ensures.same.2 r ∙ (c.store_inline.ensures.same.2 r
+    ∙ (c.store_intent-2.ensures.same.2 r ∙ (c.store_intent.ensures.same.2 r ∙ (c.open_head.ensures.same.2 r ∙ c.requires.body.1)))))) in
     let back = subst (λ (o : ℕ). (slot_at c.close_head.new.pass (locks.Row o) ≡ Some (Some (stores.Body c.requires.body.0))) × MayGive opening (locks.Row o) b b.types.lists (stores.Body c.requires.body.0))
-        (sym c.requires.number) (slot, may_give_row b hb c.requires.body.0 c.requires.body.2) in
+    (sym c.requires.number) (slot, may_give_row b hb c.requires.body.0 c.requires.body.2) in
     (b.types.lists, stores.Body c.requires.body.0, back.0, back.1)
 
 pub returns-clause-found : goal.returns-clause-found
@@ -114,7 +114,7 @@ returns-clause-found c =
     let y = view c.store_intent-2.new.pass in
     let intends : y ≡ intent_stored (intent_stored x 0 21990232555526) 1 1 = c.store_intent-2.ensures.stored ∙ ap (λ (z : View). intent_stored z 1 1) c.store_intent.ensures.stored in
     let hy = subst (IsAt made (words_of first_value) (suc (head_of inline 0)) (eight 0)) (sym intends)
-        (at_intended made (slice_set (words_of new_object) 0 21990232555526) (suc (head_of inline 0)) (eight 0) (intent_stored x 0 21990232555526) (at_intended made (words_of new_object) (suc (head_of inline 0)) (eight 0) x h 0 21990232555526) 1 1) in
+    (at_intended made (slice_set (words_of new_object) 0 21990232555526) (suc (head_of inline 0)) (eight 0) (intent_stored x 0 21990232555526) (at_intended made (words_of new_object) (suc (head_of inline 0)) (eight 0) x h 0 21990232555526) 1 1) in
     let stored : view c.store_inline.new.pass ≡ inline_stored y 0 0 1 = c.store_inline.ensures.stored ∙ ap (λ (o : ℕ). inline_stored y o 0 1) c.requires.number in
     let z = view c.store_inline.new.pass in
     let hz = subst (IsAt made (words_of first_value) (suc (head_of inline 0)) (eight 1)) (sym stored) (at_stored made (words_of first_value) (suc (head_of inline 0)) (eight 0) y hy 0 1) in
