@@ -1,7 +1,7 @@
 -- The steps that stand behind lines.
 use Rattle.std.proofs.Common.{◌≡◌, ℕ, zero, suc, List, [], ◌∷◌, ◌++◌, inl, inr, true≢false, refl, sym, ap, ◌∙◌, subst}
 use Rattle.std.proofs.lemmas.List.{append_assoc, append-nil}
-use Rattle.std.specs.Prelude.{◌⊎◌, Bool, true, false, Some, None, slice_get, unwrap_or}
+use Rattle.std.specs.Prelude.{◌⊎◌, Bool, true, false, Some, unwrap_or}
 use Rattle.at_value.specs.declared.reply.Path as path
 use Rattle.at_value.specs.declared.reply.Place.{Place}
 use Rattle.at_line.specs.Lines.{is_write_reply}

@@ -1,6 +1,6 @@
 //! What the word of a head says.
-ghost use Rattle.std.specs.Prelude.{◌≡◌, ◌<◌, ◌^◌};
-ghost use Rattle.at_core.specs.Heads.{sequence_bits, class_of, shape_of, sequence_of, IsHead};
+ghost use Rattle.std.specs.Prelude.{◌≡◌, ◌<◌, ◌≤◌, ◌==◌, ◌/◌, ◌%◌, ◌^◌};
+ghost use Rattle.at_core.specs.Heads.{sequence_bits, dictionary, IsHead};
 ghost use Rattle.at_head.specs.HeadWords.{HasWord, layout_number, word_of};
 
 use at_value::{Class, Obj};
