@@ -5,4 +5,4 @@ pub mod counting;
 #[cfg(test)]
 mod tests;
 
-pub use counting::{commit, intend, now};
+pub use counting::{Moved, commit, commit_if, intend, now};
