@@ -1,5 +1,5 @@
 //! Heads are opened and closed.
-ghost use Rattle.std.specs.Prelude.{◌≡◌, ◌≤◌, ◌<◌, ◌×◌, true, List, IfOk, IfErr};
+ghost use Rattle.std.specs.Prelude.{◌≡◌, ◌≤◌, ◌<◌, true, List, IfOk, IfErr};
 ghost use Rattle.at_value.specs.declared.operation.Op as ops;
 ghost use Rattle.at_core.specs.declared.lock.Lock.TheVariants as locks;
 ghost use Rattle.at_core.specs.Heads.{sequence_of, IsWhole};

@@ -1,5 +1,5 @@
 //! Keys are appended.
-ghost use Rattle.std.specs.Prelude.{ℕ, ◌≡◌, ◌≢◌, ◌<◌, ◌×◌, suc, true, List, length, slice_index, IfOk, IfErr};
+ghost use Rattle.std.specs.Prelude.{ℕ, ◌≡◌, ◌≢◌, ◌<◌, suc, true, List, length, slice_index, IfOk, IfErr};
 ghost use Rattle.at_view.specs.Counts.{keys};
 ghost use Rattle.at_core.specs.declared.lock.Lock.TheVariants as locks;
 ghost use Rattle.at_core.specs.HeadSteps.{copied_keys_of, key_appended};
@@ -35,9 +35,12 @@ pub fn append(world: &World, pass: &mut Pass, c: Class, n: Name) -> Result<u8, K
         × (loads : List (List ℕ)) × (view pass.new ≡ keys_loaded c (view pass.old) 0 loads)) }
 {
     for i in 0..KEYS as u8 {
-        if key_at(world, pass, c, i).is_none() {
-            append_key(world, pass, c, i, n);
-            return Ok(i);
+        match key_at(world, pass, c, i) {
+            Some(_) => {}
+            None => {
+                append_key(world, pass, c, i, n);
+                return Ok(i);
+            }
         }
     }
     Err(KeysFull)
