@@ -49,10 +49,10 @@ pub record Yields (o c n : ℕ) (found : Option value.Value) (v w : View) : Type
 -- dictionary has this under the name. The place was loaded between two loads of the head.
 pub record IsInlineRead (opened : World) (v w : View) (o n : ℕ) (read : InlineValue) : Type 0 where
   pub only : OnlyLoads v w
-  pub place : length w.history.seen ≡ read.place.0
+  pub long : length w.history.seen ≡ read.place.0
   pub object : slice_get (replay opened w.history.seen).objects o ≡ Some (record { class = read.class; dict = o })
   pub value : value_at n (born_with opened w.history.seen o) ≡ read.value
-  pub head : Has (λ m. (word : ℕ) × Loads kinds.HeadLoad (number_of (head o)) word m) only.marks
+  pub looked : Has (λ m. (word : ℕ) × Loads kinds.HeadLoad (number_of (head o)) word m) only.marks
   pub loaded : Has (Loads kinds.PlaceLoad (number_of place) read.place.0) only.marks
 
 -- The object was being written, has its values in a dictionary, or was written meanwhile.
