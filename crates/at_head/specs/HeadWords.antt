@@ -1,6 +1,6 @@
 -- The word of a head.
-use Rattle.std.specs.Prelude.{ℕ, suc, ◌≡◌, ◌+◌, ◌*◌, ◌<◌, ◌^◌}
-use Rattle.at_value.specs.Widths.{classes, class_bits, objects}
+use Rattle.std.specs.Prelude.{ℕ, suc, ◌≡◌, ◌+◌, ◌*◌, ◌^◌}
+use Rattle.at_value.specs.Widths.{class_bits}
 use Rattle.at_view.specs.declared.view.View.{View}
 use Rattle.at_core.specs.Heads.{sequence_bits, layout_bits, unmade, inline, dictionary, class_of, shape_of, sequence_of}
 use Rattle.at_core.specs.Steps.{copied_heads}

@@ -7,7 +7,12 @@ use at_value::{Class, Limits, Obj};
 fn a_head_has_its_word(rt: HostRuntime) {
     let row = Obj::new(3).unwrap();
     let class = Class::new(5).unwrap();
-    let head = Head { sequence: 2, class, layout: Layout::Inline, row };
+    let head = Head {
+        sequence: 2,
+        class,
+        layout: Layout::Inline,
+        row,
+    };
     assert_eq!(rt; head.word(), 0x000d_0500_0000_0002);
     assert_eq!(rt; Head::of_word(0x000d_0500_0000_0002), head);
     assert!(rt; head.is_whole());

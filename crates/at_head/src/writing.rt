@@ -46,21 +46,14 @@ pub fn open_write(world: &World, pass: &mut Pass, o: Obj) -> Result<Head, Worn>
 
 /// Closes a head that the pass has open, with this class, layout and row. It asks for the row of the object, and that the head says then
 /// what the object is after what the lock of the row has kept.
-pub fn close_write(
-    world: &World,
-    pass: &mut Pass,
-    o: Obj,
-    class: Class,
-    layout: Layout,
-    row: Obj,
-)
+pub fn close_write(world: &World, pass: &mut Pass, o: Obj, class: Class, layout: Layout, row: Obj)
     requires of { IsOf pass.old world.now }
     requires may { MayClose (opening_of world.now.limits) (view pass.old) o
         (word_of (closed_with (view pass.old) o class layout row)) }
     ensures same { IsSame pass.old pass.new × IsOf pass.new world.now × HasSameHand pass.old pass.new }
     ensures closed { (at : List ops.Op) × Saw (opening_of world.now.limits) (view pass.old) at
         × (view pass.new ≡ head_closed (head_loaded (view pass.old) o at (copied_heads (view pass.old) o)) o
-            (word_of (closed_with (view pass.old) o class layout row))) }
+        (word_of (closed_with (view pass.old) o class layout row))) }
 {
     let open = Head::of_word(load_head(world, pass, o));
     let head = Head {

@@ -1,5 +1,5 @@
 -- Scans of keys, load by load.
-use Rattle.std.proofs.Common.{◌≡◌, ◌≢◌, ℕ, suc, ◌+◌, ◌<◌, ◌≤◌, ◌⊎◌, inl, inr, ⊎_elim, Bool, cond, eq-eqb, List, [], ◌∷◌, ◌++◌, length, eqb, refl, sym, ap, ◌∙◌, subst, arith}
+use Rattle.std.proofs.Common.{◌≡◌, ◌≢◌, ℕ, suc, ◌+◌, ◌<◌, ◌≤◌, ◌⊎◌, inl, inr, Bool, cond, eq-eqb, List, [], ◌∷◌, ◌++◌, length, refl, sym, ap, ◌∙◌, subst, arith}
 use Rattle.std.specs.Prelude.{true, slice_index, slice_index_or, All}
 use Rattle.std.proofs.Math.Nat.{eq-or-lt_of_le}
 use Rattle.std.proofs.lemmas.Bool.{cases_lt}
@@ -12,7 +12,7 @@ use Rattle.at_view.specs.Counts as counts
 use Rattle.at_core.specs.HeadPlays.{SawKey}
 use Rattle.at_core.specs.declared.lock.Lock.TheVariants as locks
 use Rattle.at_core.specs.HeadSteps.{key_loaded, known_keys, copied_keys_of, MayAppend}
-use Rattle.at_core.specs.Inline.{AreKeys, HaveGrown, NoneIs}
+use Rattle.at_core.specs.Inline.{AreKeys, NoneIs}
 use Rattle.at_core.specs.Looks.{keys_at}
 use Rattle.at_core.specs.Locks.{holds}
 use Rattle.at_keys.specs.declared.scanning.KeyAt.TheVariants as found

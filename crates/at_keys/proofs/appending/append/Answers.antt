@@ -1,11 +1,10 @@
-use Rattle.std.proofs.Common.{◌≡◌, ◌+◌, ◌<◌, ℕ, suc, List, length, refl, sym, ap, ◌∙◌, subst, arith}
+use Rattle.std.proofs.Common.{◌+◌, ◌<◌, suc, refl, sym, ap, ◌∙◌, arith}
 use Rattle.at_value.specs.Widths.{classes, names}
 use Rattle.at_view.specs.declared.view.View.{View}
 use Rattle.at_core.specs.HeadSteps.{key_appended}
 use Rattle.at_core.specs.Passes.{view}
 use Rattle.at_core.proofs.PassSteps.{same_pass, same_then}
-use Rattle.at_keys.specs.Scans.{AreSeen, keys_loaded}
-use Rattle.at_keys.proofs.ScanLemmas.{HasLoaded, loaded_next, AreUsed, used_none, copy_is, used_more, may_append}
+use Rattle.at_keys.proofs.ScanLemmas.{HasLoaded, loaded_next, used_none, copy_is, used_more, may_append}
 use Rattle.at_keys.proofs.appending.append.Goals as goal
 
 pub loop-i-init : goal.loop-i-init
