@@ -42,3 +42,4 @@ pub mod PassSteps
 pub mod Written
 pub mod HeldStays
 pub mod Trials
+pub mod Backing

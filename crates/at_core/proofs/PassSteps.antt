@@ -1,5 +1,5 @@
 -- What is true of a pass after a step that leaves its hand, its number and its locks.
-use Rattle.std.proofs.Common.{◌≡◌, ℕ, suc, ◌<◌, ◌≤◌, Bool, true, List, map, sym, ap, ◌∙◌, subst}
+use Rattle.std.proofs.Common.{◌≡◌, ℕ, suc, ◌<◌, ◌≤◌, Bool, true, List, map, refl, sym, ap, ◌∙◌, subst}
 use Rattle.std.specs.Prelude.{is_some}
 use Rattle.atomic_table.specs.Table.{Me}
 use Rattle.at_value.specs.Widths.{objects}
@@ -50,3 +50,11 @@ pass_after p w online me e leaves = record {
   within = λ k. subst (λ hand. 0 < times k (map slot_number hand) → k < suc objects) (sym (ap (λ m. m.1) e)) (p.within k);
   right = λ l is. ap (λ m. is_some (in_hand (slot_of l) m.1)) e ∙ (p.right l is ∙ (sym (leaves.holds l) ∙ sym (ap (λ m. holds l m.0) e)));
 }
+
+-- The same pass
+
+pub same_pass : (p : Pass) → IsSame p p
+same_pass p = record { table = refl; seat = refl; number = refl }
+
+pub same_then : (p q r : Pass) → IsSame p q → IsSame q r → IsSame p r
+same_then p q r a b = record { table = b.table ∙ a.table; seat = b.seat ∙ a.seat; number = b.number ∙ a.number }

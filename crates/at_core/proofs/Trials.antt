@@ -26,7 +26,7 @@ use Rattle.at_core.specs.Heads.{sequence_of, shape_of, unmade, inline, HasDictio
 use Rattle.at_core.specs.HeadSteps.{head_opened, head_closed, inline_stored, key_loaded, key_appended, known_keys, copied_values, copied_keys_of, MayOpen, MayClose, MayStore, MayAppend}
 use Rattle.at_core.specs.Inline.{AreKeys, AreValuesOf, IsHeadOf, IsWordUnder}
 use Rattle.at_core.specs.Locks.{hold_of, holds}
-use Rattle.at_core.specs.PlaceSteps.{place_loaded, intent_stored, written, Covers, MayWrite, MayCommit, MayCommitIf}
+use Rattle.at_core.specs.PlaceSteps.{place_loaded, with_word, intent_stored, written, Covers, MayWrite, MayCommit, MayCommitIf}
 use Rattle.at_core.specs.Plays.{IsAlone, RowSays}
 use Rattle.at_core.specs.Rule.{listed}
 use Rattle.at_core.specs.SomeRun.{new_class, new_object, first_value, head_of}
@@ -43,8 +43,8 @@ module _ (history : List op.Op) (words : List ℕ) (head : ℕ) (row : List ℕ)
   pub at_loaded : (at : List op.Op) → at ≡ history → IsAt history words head row (place_loaded v at)
   at_loaded at e = record { alone = record { first = h.alone.first; childless = h.alone.childless }; seen = e; intends = h.intends; types = h.types; row = h.row; copy = h.copy }
 
-  pub at_intended : (j n : ℕ) → IsAt history (slice_set words j n) head row (intent_stored v j n)
-  at_intended j n = record { alone = record { first = h.alone.first; childless = h.alone.childless }; seen = h.seen; intends = ap (λ (ws : List ℕ). slice_set ws j n) h.intends; types = h.types; row = h.row; copy = h.copy }
+  pub at_intended : (j n : ℕ) → IsAt history (with_word words j n) head row (intent_stored v j n)
+  at_intended j n = record { alone = record { first = h.alone.first; childless = h.alone.childless }; seen = h.seen; intends = ap (λ (ws : List ℕ). with_word ws j n) h.intends; types = h.types; row = h.row; copy = h.copy }
 
   pub at_written : (kind : step_kind.StepKind) (at : List op.Op) (operation : op.Op) → at ≡ history → IsAt (history ++ operation ∷ []) words head row (written kind v at operation)
   at_written kind at operation e = record {
@@ -135,8 +135,8 @@ fresh_after v at history limits same limited below =
 -- What the helpers' views are: once the place is loaded and a word of an operation stored, and once that is written
 
 module _ (history : List op.Op) (words : List ℕ) (head : ℕ) (row : List ℕ) (v w : View) (h : IsAt history words head row v) (at : List op.Op) (alone : IsAlone v → at ≡ v.history.seen) where
-  pub ready : (j n : ℕ) → w ≡ intent_stored (place_loaded v at) j n → IsAt history (slice_set words j n) head row w
-  ready j n is = subst (IsAt history (slice_set words j n) head row) (sym is) (at_intended history words head row (place_loaded v at) (at_loaded history words head row v h at (alone h.alone ∙ h.seen)) j n)
+  pub ready : (j n : ℕ) → w ≡ intent_stored (place_loaded v at) j n → IsAt history (with_word words j n) head row w
+  ready j n is = subst (IsAt history (with_word words j n) head row) (sym is) (at_intended history words head row (place_loaded v at) (at_loaded history words head row v h at (alone h.alone ∙ h.seen)) j n)
 
   pub ready_fresh : (j n : ℕ) (limits : Limits) → w ≡ intent_stored (place_loaded v at) j n → v.who.limits ≡ limits → length history < limits.place_max → w.intent.fresh ≡ true
   ready_fresh j n limits is limited below = ap (λ (x : View). x.intent.fresh) is ∙ fresh_after v at history limits (alone h.alone ∙ h.seen) limited below

@@ -17,3 +17,4 @@ pub mod Opened
 pub mod Passes
 pub mod SomeRun
 pub mod Trials
+pub mod Backed

@@ -1,5 +1,5 @@
 -- Steps on the count of writes: a place is loaded, an operation is intended, and a write takes the next place.
-use Rattle.std.specs.Prelude.{ℕ, suc, ◌≡◌, ◌<◌, ◌||◌, nat_lt, true, false, IsTrue, List, [], ◌∷◌, ◌++◌, length, map, Some, None, slice_set, Contains}
+use Rattle.std.specs.Prelude.{ℕ, suc, ◌≡◌, ◌<◌, ◌==◌, ◌||◌, nat_lt, true, false, IsTrue, List, [], ◌∷◌, ◌++◌, length, map, Some, None, slice_index, if◌then◌else◌, Contains}
 use Rattle.at_value.specs.declared.operation.Op as op
 use Rattle.at_value.specs.Packing.{HasWords}
 use Rattle.at_model.specs.World.{World}
@@ -10,10 +10,12 @@ use Rattle.at_view.specs.declared.mark.StepKind as step_kind
 use Rattle.at_view.specs.declared.mark.StepKind.TheVariants as kinds
 use Rattle.at_view.specs.declared.view.RowHold.{RowHold}
 use Rattle.at_view.specs.declared.view.View.{View}
+use Rattle.at_view.specs.Counts.{intent_words}
 use Rattle.at_view.specs.Words.{place, intent}
 use Rattle.at_core.specs.declared.lock.Lock.TheVariants as locks
 use Rattle.at_core.specs.Heads.{IsOpened, IsInline}
 use Rattle.at_core.specs.Locks.{holds}
+use Rattle.at_core.specs.Rule.{listed}
 use Rattle.at_core.specs.Steps.{mark, marked, copied_heads}
 use Rattle.at_core.specs.Writes.{needs_types, moved_by}
 
@@ -28,9 +30,13 @@ place_loaded v at = marked (record v {
 
 -- Intending
 
+-- the four words, in which one says this
+abbrev pub with_word : List ℕ → ℕ → ℕ → List ℕ
+with_word words j word = listed intent_words (λ i. if i == j then word else slice_index words i)
+
 -- a word of the intended operation is stored
 abbrev pub intent_stored : View → ℕ → ℕ → View
-intent_stored v j word = marked (record v { intent = record v.intent { words = slice_set v.intent.words j word } })
+intent_stored v j word = marked (record v { intent = record v.intent { words = with_word v.intent.words j word } })
     (mark kinds.IntentStore (intent v.who.number j) None (Some word))
 
 -- the words are those of the operation

@@ -1,4 +1,5 @@
 //! What is true of every run of the core. Each function does nothing: its contract is the law.
+ghost use Rattle.at_core.specs.Backed.{BackingIsJoined, BackingStays, ClassIsBacked, NothingBacks};
 ghost use Rattle.at_core.specs.Runs.{EveryRunHolds, OpeningHolds};
 ghost use Rattle.at_core.specs.SomeRun.{HaveEachKind, SomeRunGoes};
 ghost use Rattle.at_core.specs.Writes.{HeldOperationsStay, LeavesObjects, LeavesRows, LeavesTypes};
@@ -33,4 +34,14 @@ pub fn held_operations()
     ensures objects { LeavesObjects }
     ensures rows { LeavesRows }
     ensures stays { HeldOperationsStay }
+{}
+
+/// The steps that stand behind lines. What stands behind some lines and then what stands behind others stands behind both in
+/// turn, and still does when the pass goes on. Nothing stands behind a line that was done at a place without a step; and the
+/// trace in which a class is made stands behind that write at its place alone.
+pub fn backing()
+    ensures joined { BackingIsJoined }
+    ensures stays { BackingStays }
+    ensures nothing { NothingBacks }
+    ensures class { ClassIsBacked }
 {}

@@ -2,9 +2,7 @@
 use Rattle.std.proofs.Common.{ap, ◌∙◌, ◌≡◌, ℕ, suc, List, [], ◌∷◌, ◌++◌, refl, sym}
 use Rattle.at_view.specs.declared.view.View.{View}
 use Rattle.at_core.specs.declared.lock.Lock as lock
-use Rattle.at_core.specs.declared.world.Pass.{Pass}
 use Rattle.at_core.specs.Locks.{holds}
-use Rattle.at_core.specs.Passes.{IsSame}
 use Rattle.at_core.specs.Plays.{Found}
 use Rattle.at_core.specs.Steps.{missed}
 use Rattle.at_core.proofs.LockLemmas.{holds_missed}
@@ -40,11 +38,3 @@ found_then l v holders word f =
       other = λ same. f.other (same ∙ sym (ap (λ y. y.number) who));
       company = λ alone. f.company (record { first = ap (λ y. y.birth) history ∙ alone.first; childless = ap (λ y. y.children) who ∙ alone.childless });
     }
-
--- The same pass
-
-pub same_pass : (p : Pass) → IsSame p p
-same_pass p = record { table = refl; seat = refl; number = refl }
-
-pub same_then : (p q r : Pass) → IsSame p q → IsSame q r → IsSame p r
-same_then p q r a b = record { table = b.table ∙ a.table; seat = b.seat ∙ a.seat; number = b.number ∙ a.number }

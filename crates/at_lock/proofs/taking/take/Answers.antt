@@ -8,7 +8,8 @@ use Rattle.at_core.specs.Steps.{missed}
 use Rattle.at_core.proofs.HandOf.{empty_hand}
 use Rattle.at_core.proofs.LockLemmas.{holds_missed}
 use Rattle.at_lock.specs.Waits.{IsTakenAtOnce}
-use Rattle.at_lock.proofs.Waiting.{waited_more, holds_waited, found_then, same_pass, same_then}
+use Rattle.at_core.proofs.PassSteps.{same_pass, same_then}
+use Rattle.at_lock.proofs.Waiting.{waited_more, holds_waited, found_then}
 use Rattle.at_lock.proofs.Families.{taken_shut}
 use Rattle.at_lock.proofs.taking.take.Goals as goal
 

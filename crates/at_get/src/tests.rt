@@ -1,0 +1,1 @@
+//! Reads on a world of its own.
