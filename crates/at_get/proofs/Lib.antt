@@ -1,0 +1,3 @@
+mod Loaded
+mod Grown
+mod Reading
