@@ -1,5 +1,5 @@
 -- Objects that are made stay.
-use Rattle.std.proofs.Common.{◌≡◌, ◌≢◌, ℕ, suc, ◌+◌, ◌≤◌, ◌<◌, ◌==◌, cond, not, length, List, [], ◌∷◌, ◌++◌, Option, Some, None, Bool, true, false, is_none, leb, slice_get, length-append, subst, arith}
+use Rattle.std.proofs.Common.{◌≡◌, ◌≢◌, ℕ, ◌≤◌, ◌<◌, ◌==◌, cond, not, length, List, [], ◌∷◌, ◌++◌, Option, Some, None, Bool, true, false, is_none, leb, slice_get, length-append, subst, arith}
 use Rattle.std.proofs.lemmas.Option.{slice_get_within, slice_get-get_or}
 use mathlib.Core.List.{IsPrefix}
 use Rattle.at_value.specs.Numbers.{object}

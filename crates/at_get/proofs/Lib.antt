@@ -1,3 +1,4 @@
 mod Loaded
 mod Grown
 mod Reading
+mod Confirming

@@ -1,5 +1,5 @@
 -- What was loaded of the keys of a class and the values of an object says of the object's dictionary.
-use Rattle.std.proofs.Common.{◌≡◌, ◌≢◌, ◌⊎◌, ⊎_elim, ◌↔◌, ℕ, suc, ◌+◌, ◌<◌, ◌≤◌, List, [], ◌∷◌, ◌++◌, length, map, Option, Some, None, refl, sym, ap, ◌∙◌, subst, arith, append-nil}
+use Rattle.std.proofs.Common.{◌≡◌, ◌≢◌, ◌⊎◌, ⊎_elim, ◌↔◌, ℕ, suc, ◌<◌, ◌≤◌, List, [], ◌∷◌, ◌++◌, length, map, Option, Some, None, refl, sym, ap, ◌∙◌, subst, arith, append-nil}
 use Rattle.std.specs.Prelude.{All, slice_get}
 use Rattle.std.proofs.lemmas.Bool.{cases_lt}
 use Rattle.std.proofs.lemmas.List.Elements.{All-head, All-weaker}
@@ -44,29 +44,44 @@ module _ (o c n : ℕ) (loads : List (List ℕ)) (look : HeadLook) where
   -- the word under the name's key was loaded
   pub tells_cell : (i word : ℕ) (keys_are : ℕ → ℕ → ℕ) (read : Option value.Value) → keys_are c i ≡ suc n → ((v : value.Value) → (read ≡ Some v) ↔ HasWord v word)
       → Tells o c n read look (with_cell o i keys_are word (with_keys c loads look))
-  tells_cell i word keys_are read key same = (refl, refl, refl, λ opened keys_then seen are says mine class inlined.
-      let pairs = born_with opened look.at look.object in
-      let cell : InlineCell = record { object = o; index = i; key = keys_are (class_of look.word) i; word = word } in
-      let under : IsWordUnder n pairs word = All-head (CellSays look.object pairs) cell look.cells (says.cells inlined) (sym mine) n (ap (λ (d : ℕ). keys_are d i) class ∙ key) in
-      subst (λ (p : ℕ). value_at n (born_with opened look.at p) ≡ read) mine (is_read (value_at n pairs) read word same under))
+  tells_cell i word keys_are read key same = (
+    refl,
+    refl,
+    refl,
+    λ opened keys_then seen are says mine class inlined.
+        let pairs = born_with opened look.at look.object in
+        let cell : InlineCell = record { object = o; index = i; key = keys_are (class_of look.word) i; word = word } in
+        let under : IsWordUnder n pairs word = All-head (CellSays look.object pairs) cell look.cells (says.cells inlined) (sym mine) n (ap (λ (d : ℕ). keys_are d i) class ∙ key) in
+        subst (λ (p : ℕ). value_at n (born_with opened look.at p) ≡ read) mine (is_read (value_at n pairs) read word same under),
+  )
 
   -- the keys of other names were loaded, and then one that isn't used
   pub tells_unused : (others : List ℕ) → All (IsOther n) others → words_loaded 0 loads ≡ others ++ 0 ∷ [] → Tells o c n None look (with_keys c loads look)
-  tells_unused others other words = (refl, refl, refl, λ opened keys_then seen are says mine class inlined.
-      let pairs = born_with opened look.at look.object in
-      let at : slice_get (words_loaded 0 loads) (length others) ≡ Some 0 = ap (λ (ws : List ℕ). slice_get ws (length others)) words ∙ at_seam others 0 [] in
-      let unused = key_in (UnusedSays keys_then (class_of look.word) pairs) c loads look.keys (says.unused inlined) (length others) 0 at in
-      let none : value_at n pairs ≡ None = unused (sym class) refl n (λ j less. subst (λ (d : ℕ). keys_then d j ≢ suc n) (sym class) (others_stay n c keys_then loads look.keys others (0 ∷ []) other words says.used j less)) in
-      subst (λ (p : ℕ). value_at n (born_with opened look.at p) ≡ None) mine none)
+  tells_unused others other words = (
+    refl,
+    refl,
+    refl,
+    λ opened keys_then seen are says mine class inlined.
+        let pairs = born_with opened look.at look.object in
+        let at : slice_get (words_loaded 0 loads) (length others) ≡ Some 0 = ap (λ (ws : List ℕ). slice_get ws (length others)) words ∙ at_seam others 0 [] in
+        let unused = key_in (UnusedSays keys_then (class_of look.word) pairs) c loads look.keys (says.unused inlined) (length others) 0 at in
+        let none : value_at n pairs ≡ None = unused (sym class) refl n (λ j less. subst (λ (d : ℕ). keys_then d j ≢ suc n) (sym class) (others_stay n c keys_then loads look.keys others (0 ∷ []) other words says.used j less)) in
+        subst (λ (p : ℕ). value_at n (born_with opened look.at p) ≡ None) mine none,
+  )
 
   -- as many keys as there may be were loaded, all of other names
   pub tells_full : (others : List ℕ) → All (IsOther n) others → words_loaded 0 loads ≡ others ++ [] → length others ≡ counts.keys → Tells o c n None look (with_keys c loads look)
-  tells_full others other words full = (refl, refl, refl, λ opened keys_then seen are says mine class inlined.
-      let by_side : (j : ℕ) → (j < counts.keys) ⊎ (counts.keys ≤ j) → keys_then c j ≢ suc n = λ j side key. ⊎_elim
-          (λ (less : j < counts.keys). others_stay n c keys_then loads look.keys others [] other words says.used j (omega (arith, less, full)) key)
-          (λ (past : counts.keys ≤ j). let none = (are c).past j past in absurd (omega (arith, none, key))) side in
-      let none = says.named inlined n (λ j. subst (λ (d : ℕ). keys_then d j ≢ suc n) (sym class) (by_side j (cases_lt j counts.keys))) in
-      subst (λ (p : ℕ). value_at n (born_with opened look.at p) ≡ None) mine none)
+  tells_full others other words full = (
+    refl,
+    refl,
+    refl,
+    λ opened keys_then seen are says mine class inlined.
+        let by_side : (j : ℕ) → (j < counts.keys) ⊎ (counts.keys ≤ j) → keys_then c j ≢ suc n = λ j side key. ⊎_elim
+        (λ (less : j < counts.keys). others_stay n c keys_then loads look.keys others [] other words says.used j (omega (arith, less, full)) key)
+        (λ (past : counts.keys ≤ j). let none = (are c).past j past in absurd (omega (arith, none, key))) side in
+        let none = says.named inlined n (λ j. subst (λ (d : ℕ). keys_then d j ≢ suc n) (sym class) (by_side j (cases_lt j counts.keys))) in
+        subst (λ (p : ℕ). value_at n (born_with opened look.at p) ≡ None) mine none,
+  )
 
 module _ (o c n : ℕ) (v w : View) where
   pub found_key : (i : ℕ) → Scans c n v w (found.At i) → (x : View) (keys_are : ℕ → ℕ → ℕ) (word : ℕ) (read : Option value.Value) → x ≡ inline_loaded w o i keys_are word → SawCell w o i word keys_are
@@ -95,8 +110,8 @@ module _ (o c n : ℕ) (v w : View) where
       let loads = scan.loads in
       let (others, other, ends) = scan.answers in
       let tells : (look : HeadLook) → Tells o c n None look (with_keys c loads look) = λ look. ⊎_elim
-          (λ (words : words_loaded 0 loads ≡ others ++ 0 ∷ []). tells_unused o c n loads look others other words)
-          (λ (full : (words_loaded 0 loads ≡ others) × (length others ≡ counts.keys)). tells_full o c n loads look others other (full.0 ∙ sym (append-nil others)) full.1) ends in
+      (λ (words : words_loaded 0 loads ≡ others ++ 0 ∷ []). tells_unused o c n loads look others other words)
+      (λ (full : (words_loaded 0 loads ≡ others) × (length others ≡ counts.keys)). tells_full o c n loads look others other (full.0 ∙ sym (append-nil others)) full.1) ends in
       subst (λ (u : View). Yields o c n None v u) (sym scan.after) (record {
         only = only_keys c 0 loads v;
         history = history_loaded c 0 loads v;
