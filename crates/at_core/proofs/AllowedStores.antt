@@ -2,7 +2,7 @@
 use Rattle.std.proofs.Common.{◌≡◌, ℕ, suc, ◌<◌, true, refl, sym, ap, ◌∙◌, subst, arith}
 use mathlib.Core.Option.{none}
 use Rattle.atomic_table.specs.Table.{Me, keeps, step, stepped, Allows}
-use Rattle.at_value.specs.Widths.{objects, classes}
+use Rattle.at_value.specs.Widths.{objects}
 use Rattle.at_value.specs.declared.limits.Limits.{Limits}
 use Rattle.at_model.specs.World.{World}
 use Rattle.at_view.specs.declared.mark.Mark.{Mark}

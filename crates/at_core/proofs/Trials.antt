@@ -1,5 +1,5 @@
 -- What the steps of the tests' helpers leave, and what they ask.
-use Rattle.std.proofs.Common.{◌≡◌, ◌≢◌, inr, ℕ, zero, suc, ◌+◌, ◌<◌, ◌||◌, Bool, true, false, IsTrue, List, [], ◌∷◌, ◌++◌, length, map, ne_eqb, refl, sym, ap, ◌∙◌, subst, arith}
+use Rattle.std.proofs.Common.{◌≡◌, ◌≢◌, inr, ℕ, zero, suc, ◌+◌, ◌<◌, ◌||◌, Bool, true, false, IsTrue, List, [], ◌∷◌, ◌++◌, length, ne_eqb, refl, sym, ap, ◌∙◌, subst, arith}
 use Rattle.std.specs.Prelude.{Some, None, nat_lt, slice_set, slice_get, slice_index, slice_index_or, if◌then◌else◌}
 use Rattle.std.proofs.lemmas.Bool.Decides.{nat_tests}
 use Rattle.std.proofs.lemmas.Option.{none-some}
@@ -10,27 +10,27 @@ use Rattle.at_value.specs.declared.limits.Limits.{Limits}
 use Rattle.at_value.specs.declared.value.Value.TheVariants as values
 use Rattle.at_value.specs.Packing.{words_of, HasWords}
 use Rattle.at_value.specs.Pairs.{value_at}
-use Rattle.at_model.specs.World.{opening, Map}
+use Rattle.at_model.specs.World.{opening}
 use Rattle.at_model.specs.History.{replay}
 use Rattle.at_model.specs.Step.{is_write}
 use Rattle.at_dict.specs.Dictionary.{Dictionary}
 use Rattle.at_view.specs.declared.mark.StepKind as step_kind
-use Rattle.at_view.specs.declared.mark.StepKind.TheVariants as kinds
 use Rattle.at_view.specs.declared.view.RowWords.{RowWords}
 use Rattle.at_view.specs.declared.view.View.{View}
-use Rattle.at_view.specs.Counts.{keys, inline_values}
-use Rattle.at_view.specs.Words.{Words, key}
+use Rattle.at_view.specs.Words.{key, inline_value}
 use Rattle.at_core.specs.declared.lock.Lock.TheVariants as locks
+use Rattle.at_view.specs.Views.{first_view}
+use Rattle.at_core.specs.declared.stored.Stored.{Stored}
 use Rattle.at_core.specs.declared.stored.Stored.TheVariants as stored
-use Rattle.at_core.specs.Heads.{class_of, sequence_of, shape_of, unmade, inline, HasDictionary, IsWhole, IsOpened, IsInline}
+use Rattle.at_core.specs.Heads.{sequence_of, shape_of, unmade, inline, HasDictionary, IsWhole, IsOpened}
 use Rattle.at_core.specs.HeadSteps.{head_opened, head_closed, inline_stored, key_loaded, key_appended, known_keys, copied_values, copied_keys_of, MayOpen, MayClose, MayStore, MayAppend}
 use Rattle.at_core.specs.Inline.{AreKeys, AreValuesOf, IsHeadOf, IsWordUnder}
-use Rattle.at_core.specs.Locks.{hold_of, holds, copy_at}
+use Rattle.at_core.specs.Locks.{hold_of, holds}
 use Rattle.at_core.specs.PlaceSteps.{place_loaded, with_word, intent_stored, written, Covers, MayWrite, MayCommit, MayCommitIf}
 use Rattle.at_core.specs.Plays.{IsAlone, RowSays}
-use Rattle.at_core.specs.Rule.{listed, types_words, row_words}
+use Rattle.at_core.specs.Rule.{listed}
 use Rattle.at_core.specs.SomeRun.{new_class, new_object, first_value, head_of}
-use Rattle.at_core.specs.Steps.{copied_heads, MayGive}
+use Rattle.at_core.specs.Steps.{Moment, taken, copied_heads, MayGive, ValueAgrees}
 use Rattle.at_core.specs.Trials.{IsAt, eight, HasWordCopies, HasKey}
 use Rattle.at_core.proofs.Committing.{held_written, hold_stamped}
 use Rattle.at_core.proofs.HeadFrames.{odd_even}
@@ -167,6 +167,39 @@ module _ (w : View) (says : RowSays opening (locks.Row 0) w) (none : slice_get (
       (λ (e : (shape_of (copied_heads w 0)).layout ≡ unmade). ((says.1.object.absent e).0, says.1.blank e))
       (λ (ne : (shape_of (copied_heads w 0)).layout ≢ unmade). absurd (none-some _ (sym none ∙ says.1.object.present ne)))
 
+-- both locks are taken, one after the other, by a pass that is alone and has seen nothing
+module _ (limits : Limits) (v w : View) (first second : Moment) (one : v ≡ taken locks.Types (first_view limits) first) (none : first.history ≡ []) (two : w ≡ taken (locks.Row 0) v second)
+    (alone : IsAlone v → second.history ≡ v.history.seen) (says : RowSays opening (locks.Row 0) (taken (locks.Row 0) v second)) where
+  abbrev both : View
+  both = taken (locks.Row 0) (taken locks.Types (first_view limits) first) second
+
+  is_both : w ≡ both
+  is_both = two ∙ ap (λ (x : View). taken (locks.Row 0) x second) one
+
+  none_yet : second.history ≡ []
+  none_yet = alone (subst IsAlone (sym one) (record { first = refl; childless = refl })) ∙ (ap (λ (x : View). x.history.seen) one ∙ none)
+
+  unmade_yet : (copied_heads both 0 ≡ 0) × ((i : ℕ) → copied_values both 0 i ≡ 0)
+  unmade_yet = unmade_is both (subst (λ (x : View). RowSays opening (locks.Row 0) (taken (locks.Row 0) x second)) one says) (ap (λ (xs : List op.Op). slice_get (replay opening xs).objects 0) none_yet)
+
+  pub begun : IsAt [] (0 ∷ 0 ∷ 0 ∷ 0 ∷ []) 0 (eight 0) w
+  begun = subst (IsAt [] (0 ∷ 0 ∷ 0 ∷ 0 ∷ []) 0 (eight 0)) (sym is_both) (record {
+    alone = record { first = refl; childless = refl };
+    seen = none_yet;
+    intends = refl;
+    types = refl;
+    row = refl;
+    copy = λ t. record { head = unmade_yet.0 t; values = eight_none (λ i. second.words (inline_value 0 i)) unmade_yet.1 t };
+  })
+
+  pub begun_copies : HasWordCopies w
+  begun_copies = (first.words, ap (λ (x : View). x.types.words) is_both)
+
+  pub begun_body : (x : Stored) → ValueAgrees opening (locks.Row 0) (taken (locks.Row 0) v second) second.lists x → (body : Dictionary) × (x ≡ stored.Body body) × (body.map ≡ [])
+  begun_body x agrees =
+      let a = subst (λ (y : View). ValueAgrees opening (locks.Row 0) (taken (locks.Row 0) y second) second.lists x) one agrees in
+      (a.0, a.1, a.2.empty (λ has. (let z : (shape_of 0).layout ≡ 2 = subst (λ (n : ℕ). HasDictionary (shape_of n)) unmade_yet.0 has in absurd (omega arith))))
+
 -- Making the class
 
 pub may_make_class : (v : View) → IsAt [] (words_of new_class) 0 (eight 0) v → v.intent.fresh ≡ true → MayCommit opening v new_class
@@ -210,7 +243,7 @@ module _ (v : View) (h : IsAt (new_class ∷ []) (words_of new_object) 1 (eight 
     types = h.types;
   }
 
-abbrev made : List op.Op
+abbrev pub made : List op.Op
 made = new_class ∷ new_object ∷ []
 
 module _ (v : View) (h : IsAt made (words_of new_object) 1 (eight 0) v) (since : (hold_of (locks.Row 0) v).since ≡ made) where
@@ -239,7 +272,7 @@ module _ (v : View) (h : IsAt made (words_of new_object) 1 (eight 0) v) (since :
 
 -- Giving it a value
 
-abbrev set_to : List op.Op
+abbrev pub set_to : List op.Op
 set_to = new_class ∷ new_object ∷ first_value ∷ []
 
 -- its only value is that under the only key
@@ -257,11 +290,11 @@ value_right = record { under = under; named = named; past = past }
     past zero e = absurd (omega (arith, e))
     past (suc i) e = none_after 1 i
 
-module _ (v : View) (h : IsAt made (words_of new_object) (suc (head_of inline 0)) (eight 0) v) where
+module _ (v : View) (h : IsAt made (words_of first_value) (suc (head_of inline 0)) (eight 0) v) where
   pub may_store : MayStore v 0 0 1
   may_store = record {
     held = h.row;
-    is_open = subst IsOpened (sym (head_is made (words_of new_object) (suc (head_of inline 0)) (eight 0) v h)) refl;
+    is_open = subst IsOpened (sym (head_is made (words_of first_value) (suc (head_of inline 0)) (eight 0) v h)) refl;
     index = omega arith;
     cell = inr (values.Nothing, (tt, refl));
   }
@@ -310,9 +343,13 @@ may_give_row v h body empty =
     let is = head_is set_to (words_of first_value) (head_of inline 0 + 2) (eight 1) v h in record {
       held = h.row;
       returns = refl;
-      agrees = (body, refl, record {
-        full = λ has. (let z : (shape_of (head_of inline 0 + 2)).layout ≡ 2 = subst (λ (n : ℕ). HasDictionary (shape_of n)) is has in absurd (omega arith));
-        empty = λ none. empty;
-      });
+      agrees = (
+        body,
+        refl,
+        record {
+          full = λ has. (let z : (shape_of (head_of inline 0 + 2)).layout ≡ 2 = subst (λ (n : ℕ). HasDictionary (shape_of n)) is has in absurd (omega arith));
+          empty = λ none. empty;
+        },
+      );
       shut = subst IsWhole (sym is) refl;
     }

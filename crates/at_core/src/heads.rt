@@ -3,7 +3,8 @@ ghost use Rattle.std.specs.Prelude.{ℕ, ◌≡◌, ◌<◌, List};
 ghost use Rattle.at_value.specs.declared.operation.Op as ops;
 ghost use Rattle.at_view.specs.Counts.{inline_values};
 ghost use Rattle.at_core.specs.HeadPlays.{SawCell, SawHead};
-ghost use Rattle.at_core.specs.HeadSteps.{head_loaded, inline_loaded, head_opened, head_closed, inline_stored, MayOpen, MayClose, MayStore};
+ghost use Rattle.at_core.specs.HeadSteps.{head_loaded, inline_loaded, MayOpen, head_opened, MayClose, head_closed};
+ghost use Rattle.at_core.specs.HeadSteps.{MayStore, inline_stored};
 ghost use Rattle.at_core.specs.Opened.{opening_of};
 ghost use Rattle.at_core.specs.Passes.{view, IsOf, IsSame, HasSameHand};
 ghost use Rattle.at_core.specs.Steps.{copied_heads};
@@ -90,8 +91,8 @@ pub fn load_inline(world: &World, pass: &mut Pass, o: Obj, i: u8) -> u64
         .load::<InlinePlay>(&mut pass.seat, words::inline_value(o, i))
 }
 
-/// Opens the head of an object, made or not, which the caller tells: its sequence is one more from then on, and odd. It asks for
-/// the row of the object, and that the head is whole and its sequence below the limit.
+/// Opens the head of an object, made or not, which the caller tells: its sequence is one more from then on, and odd. It
+/// asks for the row of the object, and that the head is whole and its sequence below the limit.
 pub fn open_head(world: &World, pass: &mut Pass, o: Obj, head: u64)
     requires of { IsOf pass.old world.now }
     requires may { MayOpen (view pass.old) o × (head ≡ copied_heads (view pass.old) o) }
@@ -104,10 +105,10 @@ pub fn open_head(world: &World, pass: &mut Pass, o: Obj, head: u64)
         .store::<OpenPlay>(&mut pass.seat, words::head(o), head + 1);
 }
 
-/// Closes the head of an object with a word whose sequence is one above that of the open head, and even. It asks for the row of the
-/// object, and that the word, with the keys that the pass knows and the inline values, says what the object is after what the lock
-/// of the row has kept. An object whose values stand in a dictionary keeps that layout; the row of a dictionary is the object's own,
-/// or one that another object has whose row the pass holds.
+/// Closes the head of an object with a word whose sequence is one above that of the open head, and even. It asks for the
+/// row of the object, and that the word, with the keys that the pass knows and the inline values, says what the object is
+/// after what the lock of the row has kept. An object whose values stand in a dictionary keeps that layout; the row of a
+/// dictionary is the object's own, or one that another object has whose row the pass holds.
 pub fn close_head(world: &World, pass: &mut Pass, o: Obj, word: u64)
     requires of { IsOf pass.old world.now }
     requires may { MayClose (opening_of world.now.limits) (view pass.old) o word }
@@ -120,7 +121,8 @@ pub fn close_head(world: &World, pass: &mut Pass, o: Obj, word: u64)
         .store::<ClosePlay>(&mut pass.seat, words::head(o), word);
 }
 
-/// Stores inline value i, below 8, of an object: 0 or the word of a value. It asks for the row of the object with its head open.
+/// Stores inline value i, below 8, of an object: 0 or the word of a value. It asks for the row of the object with its
+/// head open.
 pub fn store_inline(world: &World, pass: &mut Pass, o: Obj, i: u8, word: u64)
     requires of { IsOf pass.old world.now }
     requires may { MayStore (view pass.old) o i word }

@@ -44,9 +44,9 @@ pub fn load_key(world: &World, pass: &mut Pass, c: Class, i: u8) -> u64
         .load::<KeyPlay>(&mut pass.seat, words::key(c, i))
 }
 
-/// Appends a key for a name to a class, at index i, below 8: the number of the name and 1 is stored there. It asks for the lock of the
-/// types, that the keys before i are used and those from i on are not, and that no key of the class is that of the name. The pass
-/// knows the keys of the class from then on.
+/// Appends a key for a name to a class, at index i, below 8: the number of the name and 1 is stored there. It asks for
+/// the lock of the types, that the keys before i are used and those from i on are not, and that no key of the class is
+/// that of the name. The pass knows the keys of the class from then on.
 pub fn append_key(world: &World, pass: &mut Pass, c: Class, i: u8, n: Name)
     requires of { IsOf pass.old world.now }
     requires may { MayAppend (view pass.old) c i n }

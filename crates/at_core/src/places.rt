@@ -1,4 +1,5 @@
-//! The steps on the count of writes: the place is loaded, an operation is intended, and a write takes whatever place comes next, or one place and no other.
+//! The steps on the count of writes: the place is loaded, an operation is intended, and a write takes whatever place
+//! comes next, or one place and no other.
 ghost use Rattle.std.specs.Prelude.{◌≡◌, ◌≢◌, ◌<◌, ◌+◌, ◌++◌, ◌∷◌, [], List, length};
 ghost use Rattle.at_value.specs.declared.operation.Op as ops;
 ghost use Rattle.at_model.specs.History.{replay, IsProper};
@@ -102,10 +103,10 @@ pub fn commit(world: &World, pass: &mut Pass) -> u64
         .fetch_add::<CommitPlay>(&mut pass.seat, words::PLACE, 1)
 }
 
-/// The intended operation takes the place after all writes that the pass has seen, whose number the caller tells, if that is the
-/// next one. The answer is how many writes there were before: where it is another number, others wrote meanwhile, and nothing is
-/// written. It asks what a commit does but for the lock of the types, that the operation is one which needs no lock of the types,
-/// and that the pass has seen fewer writes than the limit.
+/// The intended operation takes the place after all writes that the pass has seen, whose number the caller tells, if
+/// that is the next one. The answer is how many writes there were before: where it is another number, others wrote
+/// meanwhile, and nothing is written. It asks what a commit does but for the lock of the types, that the operation is
+/// one which needs no lock of the types, and that the pass has seen fewer writes than the limit.
 pub fn commit_if(world: &World, pass: &mut Pass, seen: u64) -> u64
     requires of { IsOf pass.old world.now }
     requires may { (operation : ops.Op) × MayCommitIf (opening_of world.now.limits) (view pass.old) operation }

@@ -1,12 +1,9 @@
 //! The steps of the core on a world of its own, and the laws. Each call of a law does nothing: its contract is proved.
 ghost use Rattle.std.specs.Prelude.{◌≡◌, ◌<◌, ◌∷◌, [], true, IfSome, length};
-ghost use Rattle.at_value.specs.Packing.{words_of};
 ghost use Rattle.at_view.specs.Views.{first_view};
-ghost use Rattle.at_core.specs.Heads.{inline};
 ghost use Rattle.at_core.specs.Locks.{HoldsNone};
 ghost use Rattle.at_core.specs.Passes.{view, hand, IsOf, IsSame, HasSameHand};
-ghost use Rattle.at_core.specs.SomeRun.{head_of, new_class, new_object};
-ghost use Rattle.at_core.specs.Trials.{eight, IsAt, HasEmptyBody, HasKey, HasWordCopies};
+ghost use Rattle.at_core.specs.Trials.{HasClass, HasEmptyBody, HasKey, HasLocks, HasObject, HasWordCopies};
 
 use crate::heads::{close_head, load_head, load_inline, open_head, store_inline};
 use crate::keys::{append_key, load_key};
@@ -150,7 +147,7 @@ fn words_of_what_is_not_made_are_0(rt: HostRuntime) -> Result<(), OpenFault> {
 /// Word 0 of the operation that makes an object of class 1; its other words are 0.
 const OBJECT_OF_ONE: u64 = 261;
 
-/// Word 0 of the operation that gives attribute 20 of object 0 a value. Word 1 is that of the value, and the others are 0.
+/// Word 0 of the operation that gives attribute 20 of object 0 a value. Word 1 is the value's, and the others are 0.
 const SET_20: u64 = 21_990_232_555_526;
 
 /// The word of the value `Nothing`.
@@ -166,7 +163,7 @@ fn take_both(world: &World, pass: &mut Pass, o: Obj) -> bool
     requires first { view pass.old ≡ first_view world.now.limits }
     requires empty { hand pass.old ≡ [] }
     ensures same { IsSame pass.old pass.new × IsOf pass.new world.now }
-    ensures taken { result ≡ true → IsAt [] (0 ∷ 0 ∷ 0 ∷ 0 ∷ []) 0 (eight 0) (view pass.new) }
+    ensures taken { result ≡ true → HasLocks (view pass.new) }
     ensures copies { result ≡ true → HasWordCopies (view pass.new) }
     ensures body { result ≡ true → HasEmptyBody pass.new }
 {
@@ -179,11 +176,11 @@ fn take_both(world: &World, pass: &mut Pass, o: Obj) -> bool
 /// The pass makes class 1, and gives the place before.
 fn write_class(world: &World, pass: &mut Pass) -> u64
     requires of { IsOf pass.old world.now }
-    requires taken { IsAt [] (0 ∷ 0 ∷ 0 ∷ 0 ∷ []) 0 (eight 0) (view pass.old) }
+    requires taken { HasLocks (view pass.old) }
     requires copies { HasWordCopies (view pass.old) }
     requires room { 0 < world.now.limits.place_max }
     ensures same { IsSame pass.old pass.new × IsOf pass.new world.now × HasSameHand pass.old pass.new }
-    ensures class { IsAt (new_class ∷ []) (words_of new_class) 0 (eight 0) (view pass.new) }
+    ensures class { HasClass (view pass.new) }
     ensures copies { HasWordCopies (view pass.new) }
 {
     load_place(world, pass);
@@ -195,10 +192,10 @@ fn write_class(world: &World, pass: &mut Pass) -> u64
 fn append_first(world: &World, pass: &mut Pass, c: Class, n: Name) -> bool
     requires of { IsOf pass.old world.now }
     requires numbers { (c ≡ 1) × (n ≡ 20) }
-    requires class { IsAt (new_class ∷ []) (words_of new_class) 0 (eight 0) (view pass.old) }
+    requires class { HasClass (view pass.old) }
     requires copies { HasWordCopies (view pass.old) }
     ensures same { IsSame pass.old pass.new × IsOf pass.new world.now × HasSameHand pass.old pass.new }
-    ensures class { IsAt (new_class ∷ []) (words_of new_class) 0 (eight 0) (view pass.new) }
+    ensures class { HasClass (view pass.new) }
     ensures key { result ≡ true → HasKey (view pass.new) }
 {
     if load_key(world, pass, c, 0) != 0 {
@@ -212,11 +209,11 @@ fn append_first(world: &World, pass: &mut Pass, c: Class, n: Name) -> bool
 fn make_object(world: &World, pass: &mut Pass, o: Obj) -> u64
     requires of { IsOf pass.old world.now }
     requires number { o ≡ 0 }
-    requires class { IsAt (new_class ∷ []) (words_of new_class) 0 (eight 0) (view pass.old) }
+    requires class { HasClass (view pass.old) }
     requires key { HasKey (view pass.old) }
     requires room { (1 < world.now.limits.place_max) × (0 < world.now.limits.head_max) }
     ensures same { IsSame pass.old pass.new × IsOf pass.new world.now × HasSameHand pass.old pass.new }
-    ensures object { IsAt (new_class ∷ new_object ∷ []) (words_of new_object) (head_of inline 0) (eight 0) (view pass.new) }
+    ensures object { HasObject (view pass.new) }
     ensures key { HasKey (view pass.new) }
 {
     open_head(world, pass, o, 0);
@@ -227,12 +224,12 @@ fn make_object(world: &World, pass: &mut Pass, o: Obj) -> u64
     place
 }
 
-/// The pass gives attribute 20 of object 0 the value `Nothing`, at the place that it has seen, and then gives the row back. It gives
-/// how many writes it found.
+/// The pass gives attribute 20 of object 0 the value `Nothing`, at the place that it has seen, and then gives the row
+/// back. The answer is how many writes it found.
 fn set_value(world: &World, pass: &mut Pass, o: Obj) -> u64
     requires of { IsOf pass.old world.now }
     requires number { o ≡ 0 }
-    requires object { IsAt (new_class ∷ new_object ∷ []) (words_of new_object) (head_of inline 0) (eight 0) (view pass.old) }
+    requires object { HasObject (view pass.old) }
     requires key { HasKey (view pass.old) }
     requires body { HasEmptyBody pass.old }
     requires room { (2 < world.now.limits.place_max) × (2 < world.now.limits.head_max) }

@@ -2,7 +2,6 @@ use Rattle.std.proofs.Common.{◌≡◌, ℕ, suc, ◌+◌, ◌<◌, IsTrue, sym
 use Rattle.std.proofs.lemmas.Bool.Decides.{nat_tests}
 use mathlib.Core.Option.{none}
 use Rattle.atomic_table.specs.Table.{Allows, step}
-use Rattle.at_value.specs.Widths.{classes}
 use Rattle.at_model.specs.World.{opening}
 use Rattle.at_view.specs.Words.{number_of, key, is_there}
 use Rattle.at_view.proofs.WordLaws.{inside}

@@ -1,10 +1,9 @@
-use Rattle.std.proofs.Common.{◌≡◌, [], ◌∷◌, refl, sym, ap, ◌∙◌, subst}
+use Rattle.std.proofs.Common.{◌≡◌, [], ◌∷◌, ap, ◌∙◌}
 use Rattle.at_value.specs.Packing.{words_of}
-use Rattle.at_model.specs.World.{opening}
 use Rattle.at_view.specs.declared.mark.StepKind.TheVariants as kinds
 use Rattle.at_view.specs.declared.view.View.{View}
 use Rattle.at_core.specs.Passes.{view}
-use Rattle.at_core.specs.PlaceSteps.{MayCommit, intent_stored, place_loaded, written}
+use Rattle.at_core.specs.PlaceSteps.{intent_stored, place_loaded}
 use Rattle.at_core.specs.SomeRun.{new_class}
 use Rattle.at_core.specs.Trials.{eight}
 use Rattle.at_core.proofs.Trials.{ready, ready_fresh, done, may_make_class}
