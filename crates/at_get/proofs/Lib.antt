@@ -2,3 +2,4 @@ mod Loaded
 mod Grown
 mod Reading
 mod Confirming
+mod Trials
