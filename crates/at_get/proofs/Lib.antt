@@ -1,0 +1,5 @@
+mod Loaded
+mod Grown
+mod Reading
+mod Confirming
+mod Trials
