@@ -44,7 +44,7 @@ found_then l v holders word f =
 -- The same pass
 
 pub same_pass : (p : Pass) → IsSame p p
-same_pass p = record { table = refl; seat = refl; number = refl }
+same_pass p = record { table = refl; seat = refl; number = refl; notes = refl }
 
 pub same_then : (p q r : Pass) → IsSame p q → IsSame q r → IsSame p r
-same_then p q r a b = record { table = b.table ∙ a.table; seat = b.seat ∙ a.seat; number = b.number ∙ a.number }
+same_then p q r a b = record { table = b.table ∙ a.table; seat = b.seat ∙ a.seat; number = b.number ∙ a.number; notes = b.notes ∙ a.notes }
