@@ -1,0 +1,5 @@
+mod Scores
+mod Standing
+mod Holdings
+mod Settling
+mod Steps

@@ -1,0 +1,5 @@
+pub mod Deeds
+pub mod Scores
+pub mod Sections
+pub mod Surfaces
+pub mod Calls

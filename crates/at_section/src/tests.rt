@@ -1,0 +1,1 @@
+//! Sections on worlds of their own.
