@@ -1,4 +1,5 @@
 mod Scores
+mod Notes
 mod Standing
 mod Holdings
 mod Settling

@@ -1,6 +1,6 @@
 //! What notes name, and which of it a pass holds.
-ghost use Rattle.std.specs.Prelude.{◌≡◌, ◌<◌, ◌++◌, true, false, not};
-ghost use Rattle.std.specs.List.{list_all};
+ghost use Rattle.std.specs.Prelude.{◌≡◌, ◌<◌, ◌&&◌, ◌++◌, true, Some, length, slice_get};
+ghost use Rattle.at_core.specs.declared.note.Note as noted;
 ghost use Rattle.at_core.specs.Passes.{notes, view};
 ghost use Rattle.at_section.specs.Deeds.{held, names as names_word, wanting as first_wanting, word_of};
 ghost use Rattle.at_section.specs.Sections.{after_give, after_load, in_order, locks_of, row_lock, rows, two_rows};
@@ -106,15 +106,25 @@ pub(crate) fn with_locks(pass: &Pass, note: &Note) -> Note
     Note { active, ..*note }
 }
 
+/// Whether the section with so many around it has its locks and names the lock.
+fn names_at(pass: &Pass, i: u8, lock: &Lock) -> bool
+    requires { i < length (notes pass.now) }
+    ensures { (n : noted.Note) × (slice_get (notes pass.now) i ≡ Some n)
+        × (result ≡ (n.active && names_word (locks_of n) (word_of lock.now))) }
+{
+    let Some(note) = pass.note_at(i) else {
+        unreachable!()
+    };
+    note.active && names(&note, lock)
+}
+
 /// Whether a section that has its locks names the lock.
 pub(crate) fn is_named(pass: &Pass, lock: &Lock) -> bool
     ensures { result ≡ named lock.now (notes pass.now) }
 {
     for i in 0..pass.sections() {
-        if let Some(note) = pass.note_at(i) {
-            if note.active && names(&note, lock) {
-                return true;
-            }
+        if names_at(pass, i, lock) {
+            return true;
         }
     }
     false

@@ -58,7 +58,9 @@ fn end_noted<R: Wait>(world: &World, rt: &R, pass: &mut Pass) -> Ended
     ensures held { AreHeld (view pass.new) (notes pass.new) × IsReady pass.new }
 {
     let place = load_noted(world, pass);
-    let note = pass.pop_note().unwrap();
+    let Some(note) = pass.pop_note() else {
+        unreachable!()
+    };
     release_all(world, pass, &note);
     resume(world, rt, pass);
     Ended {
