@@ -16,12 +16,12 @@ use Rattle.at_core.specs.Rule.{IsLock, weight}
 use Rattle.at_core.proofs.Counts.{weight_same, times_cons}
 
 -- the lock of a slot of the table
-record HasLock (k : ℕ) : Type 0 where
-  l : lock.Lock
-  is : IsLock l
-  slot : slot_of l ≡ k
+pub record HasLock (k : ℕ) : Type 0 where
+  pub l : lock.Lock
+  pub is : IsLock l
+  pub slot : slot_of l ≡ k
 
-lock_at : (k : ℕ) → k < suc objects → HasLock k
+pub lock_at : (k : ℕ) → k < suc objects → HasLock k
 lock_at zero lt = record { l = locks.Types; is = refl; slot = refl }
 lock_at (suc o) lt = record { l = locks.Row o; is = (let yes : nat_lt o objects ≡ true = grind (arith, nat_tests, lt) in yes); slot = refl }
 

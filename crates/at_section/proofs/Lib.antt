@@ -3,4 +3,6 @@ mod Notes
 mod Standing
 mod Holdings
 mod Settling
+mod Room
+mod Ending
 mod Steps

@@ -158,7 +158,7 @@ more_counted n g e = by_test (nat_lt g most) refl
         let out : nat_lt (suc g) most ≡ false = grind (arith, nat_tests, le) in
         ap (λ (k : ℕ). if nat_lt k most then suc k else most) same ∙ sym (ap (λ (b : Bool). if b then suc g else most) out)
 
-not_capped : (g : ℕ) → capped g ≡ 0 → g ≡ 0
+pub not_capped : (g : ℕ) → capped g ≡ 0 → g ≡ 0
 not_capped g e = by_test (nat_lt g most) refl
   where
     by_test : (b : Bool) → nat_lt g most ≡ b → g ≡ 0

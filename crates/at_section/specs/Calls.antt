@@ -83,6 +83,8 @@ pub record Begins (ls : List lock.Lock) (p q : Pass) (place : ℕ) : Type 0 wher
   pub pushed : notes q ≡ around ++ note ∷ []
   pub named : named_locks around ≡ named_locks (notes p)
   pub names : locks_of note ≡ ls
+  pub active : note.active ≡ true
+  pub never : note.given ≡ 0
   pub begun : (starts : List Start) → Sections p starts → Sections q (starts ++ start_of (view q) place ∷ [])
 
 -- how often the section was given back, by the answer
@@ -130,5 +132,7 @@ pub record Finishes (p q : Pass) (r : Ended) : Type 0 where
   pub note : Note
   pub popped : notes p ≡ around ++ note ∷ []
   pub named : named_locks (notes q) ≡ named_locks around
+  pub counted : given_of r.how ≡ note.given
+  pub some : IsSuspended r.how
   pub adds : Adds (last_of (named_locks around)) (view p) (view q)
   pub ended : (starts : List Start) (s : Start) → Sections p (starts ++ s ∷ []) → Sections q starts × Ends s (locks_of note) (view q) r

@@ -7,7 +7,7 @@ ghost use Rattle.at_core.specs.Locks.{HoldsNone};
 ghost use Rattle.at_core.specs.Passes.{notes, view, hand, IsOf};
 ghost use Rattle.at_section.specs.Calls.{IsLoaded, Moves, last_of};
 ghost use Rattle.at_section.specs.Deeds.{held, is_blocked, wanting as first_wanting};
-ghost use Rattle.at_section.specs.Sections.{locks_of, named_locks, row_lock};
+ghost use Rattle.at_section.specs.Sections.{locks_of, named_locks, row_lock, types_lock};
 ghost use Rattle.at_section.specs.Surfaces.{AreHeld, IsGiving, IsReady, IsTaking, IsTop};
 
 use crate::naming::{is_named, wanting};
@@ -80,6 +80,7 @@ fn release(world: &World, pass: &mut Pass, lock: &Lock)
     ensures of { IsOf pass.new world.now }
     ensures moves { (ls : List locks.Lock) → Moves ls pass.old pass.new }
     ensures giving { (ls : List locks.Lock) → IsGiving (lock.now ∷ ls) pass.old → IsGiving ls pass.new }
+    ensures ready { IsReady pass.new }
 {
     if pass.has_lock(lock) && !is_named(pass, lock) {
         give_noted(world, pass, lock);
@@ -100,6 +101,20 @@ fn release_row(world: &World, pass: &mut Pass, o: Option<Obj>)
     }
 }
 
+/// So with the lock of the types, where it is named.
+fn release_types(world: &World, pass: &mut Pass, types: bool)
+    requires of { IsOf pass.old world.now }
+    requires ready { IsReady pass.old }
+    ensures of { IsOf pass.new world.now }
+    ensures moves { (ls : List locks.Lock) → Moves ls pass.old pass.new }
+    ensures giving { (ls : List locks.Lock) → IsGiving (types_lock types ++ ls) pass.old → IsGiving ls pass.new }
+    ensures ready { IsReady pass.new }
+{
+    if types {
+        release(world, pass, &Lock::Types);
+    }
+}
+
 /// Gives back the locks of a note that no section which has its locks names.
 pub(crate) fn release_all(world: &World, pass: &mut Pass, note: &Note)
     requires of { IsOf pass.old world.now }
@@ -108,9 +123,7 @@ pub(crate) fn release_all(world: &World, pass: &mut Pass, note: &Note)
     ensures moves { (ls : List locks.Lock) → Moves ls pass.old pass.new }
     ensures giving { IsGiving [] pass.new }
 {
-    if note.types {
-        release(world, pass, &Lock::Types);
-    }
+    release_types(world, pass, note.types);
     release_row(world, pass, note.a);
     release_row(world, pass, note.b);
 }
@@ -137,10 +150,12 @@ pub(crate) fn resume<R: Wait>(world: &World, rt: &R, pass: &mut Pass)
     ensures held { AreHeld (view pass.new) (notes pass.new) }
     ensures ready { IsReady pass.new }
 {
-    if let Some(note) = innermost(pass) {
-        if !note.active {
-            take_all(world, rt, pass, &note);
-            load_noted(world, pass);
-        }
+    let Some(note) = innermost(pass) else {
+        return;
+    };
+    if note.active {
+        return;
     }
+    take_all(world, rt, pass, &note);
+    load_noted(world, pass);
 }
