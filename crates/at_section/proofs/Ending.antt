@@ -97,14 +97,14 @@ never_kept (hows.Suspended k) e some = absurd (omega arith)
 
 -- Whether sections name the lock of the types
 
-other_word : (o : ℕ) → (word_of (locks.Row o) == word_of locks.Types) ≡ false
+pub other_word : (o : ℕ) → (word_of (locks.Row o) == word_of locks.Types) ≡ false
 other_word o = word_apart (locks.Row o) locks.Types (λ e. true≢false (sym (ap is_types e)))
   where
     is_types : lock.Lock → Bool
     is_types locks.Types = true
     is_types (locks.Row p) = false
 
-rows_differ : (a b : Option ℕ) → names (row_lock a ++ row_lock b) (word_of locks.Types) ≡ false
+pub rows_differ : (a b : Option ℕ) → names (row_lock a ++ row_lock b) (word_of locks.Types) ≡ false
 rows_differ None None = refl
 rows_differ None (Some p) = ap (λ x. x || false) (other_word p)
 rows_differ (Some o) None = ap (λ x. x || false) (other_word o)

@@ -154,3 +154,10 @@ ready_waited p q l none t value shut = record {
   where
     shut_of : (k : lock.Lock) (o : ℕ) → locks.Row o ≡ k → IsShut k (view q) → IsWhole (copied_heads (view q) o)
     shut_of k o same = subst (λ (x : lock.Lock). IsShut x (view q) → IsWhole (copied_heads (view q) o)) same (λ whole. whole)
+
+-- what a pass has that knows the same
+pub value_same : (p q : Pass) (k : lock.Lock) → view q ≡ view p → slot_at q k ≡ slot_at p k → HasValue p k → HasValue q k
+value_same p q k e slot = value_stays p q k slot (ap (λ v. v.who.limits) e) (ap (hold_of k) e) (beside_same k (view p) (view q) e)
+
+pub shut_same : (p q : Pass) → view q ≡ view p → IsShut locks.Types (view p) → IsShut locks.Types (view q)
+shut_same p q e shut o has = whole_head o (view p) (view q) e (shut o (sym (ap (holds (locks.Row o)) e) ∙ has))

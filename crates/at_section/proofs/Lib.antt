@@ -5,4 +5,5 @@ mod Holdings
 mod Settling
 mod Room
 mod Ending
+mod Begun
 mod Steps
