@@ -16,17 +16,14 @@ use Rattle.at_section.proofs.Holdings.{shut_same, value_same}
 use Rattle.at_section.proofs.Settling.{all_has}
 use Rattle.at_section.proofs.section.begin_types.Goals as goal
 
-begun_in : (g : goal.Over) (c : goal.After-begin_noted g) → Begins (in_order true c.args.a c.args.b) c.args.pass.now c.begin_noted.new.pass c.begin_noted.result
-begun_in g c = subst (λ (ls : List lock.Lock). Begins ls c.args.pass.now c.begin_noted.new.pass c.begin_noted.result) c.note_of-note.ensures.names c.begin_noted.ensures.begun
-
 pub types_out-requires-clause-has : goal.types_out-requires-clause-has
 types_out-requires-clause-has g c =
-    let b = begun_in g c in
+    let b = subst (λ (ls : List lock.Lock). Begins ls c.args.pass.now c.begin_noted.new.pass c.begin_noted.result) c.note_of-note.ensures.names c.begin_noted.ensures.begun in
     c.begin_noted.ensures.held.1.values locks.Types (all_has (held (view c.begin_noted.new.pass)) (in_order true c.args.a c.args.b) locks.Types b.has refl)
 
 pub returns-clause-begun : goal.returns-clause-begun
 returns-clause-begun g c =
-    let b = begun_in g c in
+    let b = subst (λ (ls : List lock.Lock). Begins ls c.args.pass.now c.begin_noted.new.pass c.begin_noted.result) c.note_of-note.ensures.names c.begin_noted.ensures.begun in
     let q = c.begin_noted.new.pass in
     let t = c.types_out.new.pass in
     let e = c.types_out.ensures.same.2 in
@@ -35,13 +32,13 @@ returns-clause-begun g c =
 
 pub returns-clause-now : goal.returns-clause-now
 returns-clause-now g c =
-    let b = begun_in g c in
+    let b = subst (λ (ls : List lock.Lock). Begins ls c.args.pass.now c.begin_noted.new.pass c.begin_noted.result) c.note_of-note.ensures.names c.begin_noted.ensures.begun in
     let q = c.begin_noted.new.pass in
     c.types_out.ensures.now (subst (λ (l : Limits). AreKept (opening_of l) (view q)) c.begin_noted.ensures.of.limits (kept_now (view q) c.begin_noted.result b.loaded))
 
 pub returns-clause-surface : goal.returns-clause-surface
 returns-clause-surface g c =
-    let b = begun_in g c in
+    let b = subst (λ (ls : List lock.Lock). Begins ls c.args.pass.now c.begin_noted.new.pass c.begin_noted.result) c.note_of-note.ensures.names c.begin_noted.ensures.begun in
     let q = c.begin_noted.new.pass in
     let t = c.types_out.new.pass in
     let e = c.types_out.ensures.same.2 in
