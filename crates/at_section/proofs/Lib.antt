@@ -6,4 +6,5 @@ mod Settling
 mod Room
 mod Ending
 mod Begun
+pub mod Outside
 mod Steps

@@ -58,7 +58,7 @@ every_map P Q (x ∷ xs) f a = (f x a.0, every_map P Q xs f a.1)
 
 -- Which locks are held after each step
 
-same_held : (before after : Held) → ((l : lock.Lock) → after l ≡ before l) → after ≡ before
+pub same_held : (before after : Held) → ((l : lock.Lock) → after l ≡ before l) → after ≡ before
 same_held before after same = λ i l. same l i
 
 pub turned_at : (l : lock.Lock) (now : Bool) (before : Held) (k : lock.Lock) → (k ≡ l) → turned (word_of l) now before k ≡ now

@@ -6,7 +6,7 @@ use Rattle.at_core.specs.declared.lock.Lock as lock
 use Rattle.at_core.specs.declared.lock.Lock.TheVariants as locks
 use Rattle.at_core.specs.declared.note.Note.{Note}
 use Rattle.at_core.specs.declared.world.Pass.{Pass}
-use Rattle.at_core.specs.Locks.{holds}
+use Rattle.at_core.specs.Locks.{holds, HoldsNone}
 use Rattle.at_core.specs.Passes.{notes, view}
 use Rattle.at_core.specs.Steps.{IsShut}
 use Rattle.at_lock.specs.Holding.{HasValue, HasOut}
@@ -44,6 +44,11 @@ pub record Surface (p : Pass) : Type 0 where
   pub held : AreHeld (view p) (notes p)
   pub ready : IsReady p
   pub plain : NamesNoTypes (notes p)
+
+-- a pass in no section, which holds no lock
+pub record IsOutside (p : Pass) : Type 0 where
+  pub free : HoldsNone (view p)
+  pub none : notes p ≡ []
 
 -- What is true while it is in one: that section is the innermost and was never given back, and the pass has the types out.
 pub record TypesSurface (p : Pass) : Type 0 where

@@ -2,6 +2,8 @@
 ghost use Rattle.std.specs.Prelude.{◌≡◌, ◌↔◌, List, true};
 ghost use Rattle.at_view.specs.declared.mark.Mark as marks;
 ghost use Rattle.at_core.specs.declared.lock.Lock as locks;
+ghost use Rattle.at_core.specs.declared.world.Pass as passes;
+ghost use Rattle.at_section.specs.Surfaces.{IsOutside, Surface};
 ghost use Rattle.at_section.specs.Deeds.{NoGive, NoHeld};
 ghost use Rattle.at_section.specs.Scores.{Start, opening, score};
 
@@ -16,4 +18,9 @@ pub fn kept_sections()
 pub fn alone_sections()
     ensures { (ls : List locks.Lock) (s : Start) (ms : List marks.Mark)
         → (score ls (opening s) ms).caused ≡ true → NoHeld ms → (score ls (opening s) ms).given ≡ 0 }
+{}
+
+/// A pass that is in no section and holds no lock may begin one.
+pub fn outside_sections()
+    ensures { (p : passes.Pass) → IsOutside p → Surface p }
 {}
