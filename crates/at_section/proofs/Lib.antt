@@ -8,3 +8,4 @@ mod Ending
 mod Begun
 pub mod Outside
 mod Steps
+mod KeptLines

@@ -3,3 +3,4 @@ pub mod Scores
 pub mod Sections
 pub mod Surfaces
 pub mod Calls
+pub mod Kept

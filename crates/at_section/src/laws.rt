@@ -5,6 +5,7 @@ ghost use Rattle.at_core.specs.declared.lock.Lock as locks;
 ghost use Rattle.at_core.specs.declared.world.Pass as passes;
 ghost use Rattle.at_section.specs.Surfaces.{IsOutside, Surface};
 ghost use Rattle.at_section.specs.Deeds.{NoGive, NoHeld};
+ghost use Rattle.at_section.specs.Kept.{KeptIsLeftAlone};
 ghost use Rattle.at_section.specs.Scores.{Start, opening, score};
 
 /// A section is never given back exactly where no step since its begin gives one of its locks.
@@ -23,4 +24,10 @@ pub fn alone_sections()
 /// A pass that is in no section and holds no lock may begin one.
 pub fn outside_sections()
     ensures { (p : passes.Pass) → IsOutside p → Surface p }
+{}
+
+/// What a section that ended kept is to lines: in whatever history comes of it, each write that isn't the pass's own leaves its objects
+/// alone from the place of its begin to that of its end.
+pub fn kept_lines()
+    ensures { KeptIsLeftAlone }
 {}

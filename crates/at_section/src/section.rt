@@ -31,9 +31,9 @@ fn begin_noted<R: Wait>(world: &World, rt: &R, pass: &mut Pass, note: &Note) -> 
     ensures held { AreHeld (view pass.new) (notes pass.new) × IsReady pass.new }
 {
     take_all(world, rt, pass, note);
-    let place = load_noted(world, pass);
+    let begun = load_noted(world, pass);
     pass.push_note(*note);
-    place
+    begun
 }
 
 /// How a section ended that was given back so often.

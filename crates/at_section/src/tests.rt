@@ -18,6 +18,7 @@ fn laws_hold() {
     laws::kept_sections();
     laws::alone_sections();
     laws::outside_sections();
+    laws::kept_lines();
 }
 
 /// A world, and its first pass.
@@ -75,7 +76,10 @@ fn holder(world: &World, pass: &mut Pass, lock: &Lock) -> Option<u8>
     requires surface { Surface pass.old }
     ensures { IsOf pass.new world.now × Surface pass.new }
 {
-    if pass.has_lock(lock) || usize::from(pass.sections()) > MOST_NOTES {
+    if pass.has_lock(lock) {
+        return Some(pass.number());
+    }
+    if usize::from(pass.sections()) > MOST_NOTES {
         return Some(pass.number());
     }
     match try_take(world, pass, *lock) {
@@ -212,7 +216,6 @@ fn nested<R: Wait>(world: &World, rt: &R, pass: &mut Pass, count: u16) -> (bool,
 #[test]
 fn twenty_sections_nest(rt: HostRuntime) -> Result<(), OpenFault> {
     let (world, mut pass) = open(rt.alloc())?;
-    laws::outside_sections();
     assert_eq!(rt; nested(&world, &rt, &mut pass, 20), (false, 20));
     assert_eq!(rt; pass.sections(), 0);
     Ok(())

@@ -15,18 +15,18 @@ take_all-requires-clause-taking g c = taking_held c.args.pass.now (locks_of c.ar
 pub returns-clause-begun : goal.returns-clause-begun
 returns-clause-begun g c =
     let take = c.take_all.ensures in
-    let load = c.load_noted-place.ensures in
+    let load = c.load_noted-begun.ensures in
     let push = c.push_note.ensures in
-    begins_of c.args.pass.now c.take_all.new.pass c.load_noted-place.new.pass c.push_note.new.self c.args.note.now c.load_noted-place.result load.loaded.0 take.moves take.has
+    begins_of c.args.pass.now c.take_all.new.pass c.load_noted-begun.new.pass c.push_note.new.self c.args.note.now c.load_noted-begun.result load.loaded.0 take.moves take.has
         load.same.0 load.loaded.1 load.loaded.2 load.loaded.3 load.noted push.same push.pushed c.requires.new.0 c.requires.new.1
 
 pub returns-clause-held : goal.returns-clause-held
 returns-clause-held g c =
     let take = c.take_all.ensures in
-    let load = c.load_noted-place.ensures in
+    let load = c.load_noted-begun.ensures in
     let push = c.push_note.ensures in
     let q = c.take_all.new.pass in
-    let r = c.load_noted-place.new.pass in
+    let r = c.load_noted-begun.new.pass in
     let s = c.push_note.new.self in
     let n = c.args.note.now in
     let has : list_all (held (view r)) (locks_of n) ≡ true = ap (λ v. list_all (held v) (locks_of n)) load.loaded.2 ∙ (ap (λ h. list_all h (locks_of n)) (held_loaded (view q) load.loaded.0) ∙ take.has) in
