@@ -115,9 +115,11 @@ finishes_of p q r s t n place at h are same long loaded saw noted pops pop relea
   ended = λ starts u a.
       let last_p = (pairs_last (λ x v. Stands (view p) x v) (notes r) starts n u (subst (λ ns. Pairs (λ x v. Stands (view p) x v) ns (starts ++ u ∷ [])) popped a)).1 in
       let others_q = (pairs_last (λ x v. Stands (view q) x v) (notes r) starts n u (subst (λ ns. Pairs (λ x v. Stands (view q) x v) ns (starts ++ u ∷ [])) pop (pq.stay (starts ++ u ∷ []) a))).0 in
-      let others_r : Sections r starts = subst (λ v. Pairs (λ x w. Stands v x w) (notes r) starts) (sym e) others_q in
-      (rt.stay starts others_r, ends_of (view p) (view q) (view t) n u at adds_q.marks (record { place = record { 0 = place }; how = h }) last_p loaded adds_q.trace saw
-          (left_then (view p) (view q) (view t) pq.left left_q) left_q long counted some has);
+      let others_r : Sections r starts = subst (λ v. Pairs (λ x w. Stands v x w) (notes r) starts) (sym e) others_q in (
+        rt.stay starts others_r,
+        ends_of (view p) (view q) (view t) n u at adds_q.marks (record { place = record { 0 = place }; how = h }) last_p loaded adds_q.trace saw
+            (left_then (view p) (view q) (view t) pq.left left_q) left_q long counted some has,
+      );
 }
   where
     below : List lock.Lock

@@ -95,14 +95,14 @@ ready_taken p q l out t value elsewhere r = record {
   values = λ k has. ⊎_elim
       (λ (same : k ≡ l). subst (HasValue q) (sym same) value)
       (λ (ne : k ≢ l).
-          let hold : hold_of k (view q) ≡ hold_of k (view p) = ap (hold_of k) t.after ∙ hold_beside k l (view p) t.at ne in
-          value_stays p q k (elsewhere k ne) (ap (λ v. v.who.limits) t.after) hold (to_view k (view p) (taken l (view p) t.at) (view q) t.after (beside_taken k l (view p) t.at ne)) (r.values k (sym (ap (λ h. h.held) hold) ∙ has)))
+      let hold : hold_of k (view q) ≡ hold_of k (view p) = ap (hold_of k) t.after ∙ hold_beside k l (view p) t.at ne in
+      value_stays p q k (elsewhere k ne) (ap (λ v. v.who.limits) t.after) hold (to_view k (view p) (taken l (view p) t.at) (view q) t.after (beside_taken k l (view p) t.at ne)) (r.values k (sym (ap (λ h. h.held) hold) ∙ has)))
       (lock_cases k l);
   shut = λ o has. ⊎_elim
       (λ (same : locks.Row o ≡ l). whole_head o (taken l (view p) t.at) (view q) t.after (whole_of (opening_of (view p).who.limits) l o (view p) t.at same t.took.head))
       (λ (ne : locks.Row o ≢ l). whole_head o (taken l (view p) t.at) (view q) t.after
-          (subst IsWhole (sym (ap (λ x. x.head) (copy_beside o l (view p) t.at ne)))
-          (r.shut o (sym (ap (holds (locks.Row o)) t.after ∙ ap (λ h. h.held) (hold_beside (locks.Row o) l (view p) t.at ne)) ∙ has))))
+      (subst IsWhole (sym (ap (λ x. x.head) (copy_beside o l (view p) t.at ne)))
+      (r.shut o (sym (ap (holds (locks.Row o)) t.after ∙ ap (λ h. h.held) (hold_beside (locks.Row o) l (view p) t.at ne)) ∙ has))))
       (lock_cases (locks.Row o) l);
 }
 
@@ -111,8 +111,8 @@ ready_given p q l e elsewhere r = record {
   values = λ k has. ⊎_elim
       (λ (same : k ≡ l). absurd (true≢false (sym has ∙ (ap (λ (x : lock.Lock). holds x (view q)) same ∙ (ap (holds l) e ∙ ap (λ h. h.held) (hold_given l (view p)))))))
       (λ (ne : k ≢ l).
-          let hold : hold_of k (view q) ≡ hold_of k (view p) = ap (hold_of k) e ∙ hold_kept k l (view p) ne in
-          value_stays p q k (elsewhere k ne) (ap (λ v. v.who.limits) e) hold (to_view k (view p) (given l (view p)) (view q) e (beside_given k l (view p))) (r.values k (sym (ap (λ h. h.held) hold) ∙ has)))
+      let hold : hold_of k (view q) ≡ hold_of k (view p) = ap (hold_of k) e ∙ hold_kept k l (view p) ne in
+      value_stays p q k (elsewhere k ne) (ap (λ v. v.who.limits) e) hold (to_view k (view p) (given l (view p)) (view q) e (beside_given k l (view p))) (r.values k (sym (ap (λ h. h.held) hold) ∙ has)))
       (lock_cases k l);
   shut = λ o has. ⊎_elim
       (λ (same : locks.Row o ≡ l). absurd (true≢false (sym has ∙ (ap (λ (x : lock.Lock). holds x (view q)) same ∙ (ap (holds l) e ∙ ap (λ h. h.held) (hold_given l (view p)))))))

@@ -76,9 +76,9 @@ slot_among (k ∷ ls) l e =
     let c = times_cons (slot_of l) (slot_of k) (map slot_of ls) in
     ⊎_elim
     (λ (here : (word_of k == word_of l) ≡ true).
-        let w = weight_same (slot_of l) in
-        let same : weight (slot_of k == slot_of l) ≡ weight (slot_of l == slot_of l) = ap (λ (x : lock.Lock). weight (slot_of x == slot_of l)) (word_one k l (eqb-true (word_of k) (word_of l) here)) in
-        omega arith)
+    let w = weight_same (slot_of l) in
+    let same : weight (slot_of k == slot_of l) ≡ weight (slot_of l == slot_of l) = ap (λ (x : lock.Lock). weight (slot_of x == slot_of l)) (word_one k l (eqb-true (word_of k) (word_of l) here)) in
+    omega arith)
     (λ (there : names ls (word_of l) ≡ true). let r = slot_among ls l there in omega arith)
     (or_cases (word_of k == word_of l) (names ls (word_of l)) e)
 

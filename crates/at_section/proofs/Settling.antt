@@ -126,8 +126,8 @@ named_loaded : (before : Held) (l : lock.Lock) (ns : List Note) → named l ns �
 named_loaded before l [] e = e
 named_loaded before l (n ∷ ns) e = ⊎_elim
     (λ (here : (n.active && names (locks_of n) (word_of l)) ≡ true).
-        let t = and_parts n.active (names (locks_of n) (word_of l)) here in
-        or_left ((n.active || list_all before (locks_of n)) && names (locks_of n) (word_of l)) (named l (map (after_load before) ns)) (both_true (or_left n.active (list_all before (locks_of n)) t.0) t.1))
+    let t = and_parts n.active (names (locks_of n) (word_of l)) here in
+    or_left ((n.active || list_all before (locks_of n)) && names (locks_of n) (word_of l)) (named l (map (after_load before) ns)) (both_true (or_left n.active (list_all before (locks_of n)) t.0) t.1))
     (λ (there : named l ns ≡ true). or_right ((n.active || list_all before (locks_of n)) && names (locks_of n) (word_of l)) (named l (map (after_load before) ns)) (named_loaded before l ns there))
     (or_cases (n.active && names (locks_of n) (word_of l)) (named l ns) e)
 
@@ -254,11 +254,11 @@ drop_one p l ls g f = record {
   owed = λ k u. ⊎_elim
       (λ (old : named k (notes p) ≡ true). or_left (named k (notes p)) (names ls (word_of k)) old)
       (λ (mine : ((word_of l == word_of k) || names ls (word_of k)) ≡ true). ⊎_elim
-          (λ (it : (word_of l == word_of k) ≡ true).
-              let same : l ≡ k = word_one l k (eqb-true (word_of l) (word_of k) it) in
-              or_left (named k (notes p)) (names ls (word_of k)) (subst (λ (x : lock.Lock). holds x (view p) ≡ true → named x (notes p) ≡ true) same f u))
-          (λ (other : names ls (word_of k) ≡ true). or_right (named k (notes p)) (names ls (word_of k)) other)
-          (or_cases (word_of l == word_of k) (names ls (word_of k)) mine))
+      (λ (it : (word_of l == word_of k) ≡ true).
+      let same : l ≡ k = word_one l k (eqb-true (word_of l) (word_of k) it) in
+      or_left (named k (notes p)) (names ls (word_of k)) (subst (λ (x : lock.Lock). holds x (view p) ≡ true → named x (notes p) ≡ true) same f u))
+      (λ (other : names ls (word_of k) ≡ true). or_right (named k (notes p)) (names ls (word_of k)) other)
+      (or_cases (word_of l == word_of k) (names ls (word_of k)) mine))
       (or_cases (named k (notes p)) ((word_of l == word_of k) || names ls (word_of k)) (g.owed k u));
   ready = g.ready;
 }
@@ -281,9 +281,9 @@ released_given p q l ls free e noted ready g =
           ap (λ ns. named k ns || names ls (word_of k)) same ∙ ⊎_elim
           (λ (old : named k (notes p) ≡ true). or_left (named k (notes p)) (names ls (word_of k)) old)
           (λ (mine : ((word_of l == word_of k) || names ls (word_of k)) ≡ true). ⊎_elim
-              (λ (it : (word_of l == word_of k) ≡ true). absurd (t.1 (sym (word_one l k (eqb-true (word_of l) (word_of k) it)))))
-              (λ (other : names ls (word_of k) ≡ true). or_right (named k (notes p)) (names ls (word_of k)) other)
-              (or_cases (word_of l == word_of k) (names ls (word_of k)) mine))
+          (λ (it : (word_of l == word_of k) ≡ true). absurd (t.1 (sym (word_one l k (eqb-true (word_of l) (word_of k) it)))))
+          (λ (other : names ls (word_of k) ≡ true). or_right (named k (notes p)) (names ls (word_of k)) other)
+          (or_cases (word_of l == word_of k) (names ls (word_of k)) mine))
           (or_cases (named k (notes p)) ((word_of l == word_of k) || names ls (word_of k)) (g.owed k t.0));
       ready = ready;
     }
@@ -320,9 +320,9 @@ pub held_begun : (q r : Pass) (n : Note) → view r ≡ view q → notes r ≡ n
 held_begun q r n same pushed active has g = subst (λ v. AreHeld v (notes r)) (sym same) (subst (AreHeld (view q)) (sym pushed) (held_of (view q) (notes q ++ n ∷ [])
     (every_push (IsSettled (held (view q))) (notes q) n g.settled (active ∙ sym has))
     (λ l u. ⊎_elim
-        (λ (old : named l (notes q) ≡ true). named_old l (notes q) n old)
-        (λ (new : names (locks_of n) (word_of l) ≡ true). named_new l (notes q) n (both_true active new))
-        (or_cases (named l (notes q)) (names (locks_of n) (word_of l)) (g.owed l u)))
+    (λ (old : named l (notes q) ≡ true). named_old l (notes q) n old)
+    (λ (new : names (locks_of n) (word_of l) ≡ true). named_new l (notes q) n (both_true active new))
+    (or_cases (named l (notes q)) (names (locks_of n) (word_of l)) (g.owed l u)))
     (top_of (notes q ++ n ∷ []) (notes q) n refl active)))
   where
     every_push : (P : Note → Type 0) (xs : List Note) (x : Note) → Every P xs → P x → Every P (xs ++ x ∷ [])
@@ -349,7 +349,7 @@ held_resumed r ls around n is names_are has g =
     let active : n.active ≡ true = settled ∙ (ap (list_all (held (view r))) names_are ∙ has) in
     held_of (view r) (notes r) g.settled
     (λ l u. ⊎_elim
-        (λ (old : named l (notes r) ≡ true). old)
-        (λ (mine : names ls (word_of l) ≡ true). ap (named l) is ∙ named_new l around n (both_true active (ap (λ ks. names ks (word_of l)) names_are ∙ mine)))
-        (or_cases (named l (notes r)) (names ls (word_of l)) (g.owed l u)))
+    (λ (old : named l (notes r) ≡ true). old)
+    (λ (mine : names ls (word_of l) ≡ true). ap (named l) is ∙ named_new l around n (both_true active (ap (λ ks. names ks (word_of l)) names_are ∙ mine)))
+    (or_cases (named l (notes r)) (names ls (word_of l)) (g.owed l u)))
     (top_of (notes r) around n is active)

@@ -202,14 +202,14 @@ stands_given v n s l why a = by_test (n.active && names (locks_of n) (word_of l)
         (ap (λ x. given_back x z) e ∙ ap (λ h. record { held = h; had = n.active; given = a.given; blocked = is_blocked v; caused = true }) (sym (held_given l v)))
         a.counted
         (λ none. each_apart (IsHeldSince s.place v) (IsHeldSince s.place (given l v)) (locks_of n) l (λ k ne h. since_stays s.place v (given l v) k (hold_kept k l v ne) h)
-            (sym (ap (λ x. x && names (locks_of n) (word_of l)) (never_lost v n s a none)) ∙ e) (a.since none))
+        (sym (ap (λ x. x && names (locks_of n) (word_of l)) (never_lost v n s a none)) ∙ e) (a.since none))
 
 -- a step that takes and gives no lock and loads no place leaves the section
 pub stands_other : (v w : View) (n : Note) (s : Start) (m : Mark) → deed_of m.kind ≡ other → w.trace ≡ v.trace ++ m ∷ [] → ((l : lock.Lock) → hold_of l w ≡ hold_of l v) → Stands v n s → Stands w n s
 stands_other v w n s m kind e same a = stands_step v w n n s m a.given a e refl
     (ap (λ d. scored (locks_of n) (state v n a.given (is_blocked v)) d m) kind
-        ∙ (ap (λ h. record { held = h; had = n.active; given = a.given; blocked = is_blocked v; caused = true }) (sym (same_held (held v) (held w) (λ l. ap (λ h. h.held) (same l))))
-        ∙ ap (λ d. state w n a.given (blocked_by d m (is_blocked v))) (sym kind)))
+    ∙ (ap (λ h. record { held = h; had = n.active; given = a.given; blocked = is_blocked v; caused = true }) (sym (same_held (held v) (held w) (λ l. ap (λ h. h.held) (same l))))
+    ∙ ap (λ d. state w n a.given (blocked_by d m (is_blocked v))) (sym kind)))
     a.counted
     (λ none. each_since s.place v w (locks_of n) (λ l has. same l) (a.since none))
 

@@ -63,7 +63,11 @@ fn wanting_row(pass: &Pass, o: Option<Obj>) -> Option<Lock>
     ensures { result ≡ first_wanting (row_lock o) (held (view pass.now)) }
 {
     let lock = Lock::Row(o?);
-    if pass.has_lock(&lock) { None } else { Some(lock) }
+    if pass.has_lock(&lock) {
+        None
+    } else {
+        Some(lock)
+    }
 }
 
 /// The first lock of the note that the pass doesn't hold.

@@ -22,8 +22,9 @@ fn laws_hold() {
 }
 
 /// A world, and its first pass.
+#[tactic(auto, using(crate::proofs::Outside::outside))]
 fn open(alloc: Global) -> Result<(World, Pass), OpenFault>
-    ensures { IfOk result (λ r. IsOf r.1 r.0 × IsOutside r.1) }
+    ensures { IfOk result (λ r. IsOf r.1 r.0 × IsOutside r.1 × Surface r.1) }
 {
     World::open(alloc, Limits::program())
 }
@@ -107,89 +108,128 @@ fn found(world: &World, pass: &mut Pass) -> [bool; 4]
     held
 }
 
-/// What a second pass finds while the first is in a section, and after it.
-fn beside<R: Wait>(
+/// What a pass is in a section over, and what another finds then.
+#[derive(Drop)]
+struct Overlap {
+    a: Option<u16>,
+    b: Option<u16>,
+    found: [bool; 4],
+}
+
+/// Whether a second pass finds this while the first is in such a section, and nothing after it, and the section is kept.
+fn holds_rows<R: Wait>(
     world: &World,
     rt: &R,
     first: &mut Pass,
     second: &mut Pass,
-    a: u16,
-    b: Option<u16>,
-) -> ([bool; 4], Option<How>, [bool; 4])
+    overlap: &Overlap,
+) -> bool
     requires of { IsOf first.old world.now × IsOf second.old world.now }
     requires surface { Surface first.old × Surface second.old }
     ensures of { IsOf first.new world.now × IsOf second.new world.now }
     ensures surface { Surface first.new × Surface second.new }
 {
-    enter(world, rt, first, a, b);
+    enter(world, rt, first, overlap.a.unwrap_or(4_096), overlap.b);
     let within = found(world, second);
     let how = leave(world, rt, first);
-    (within, how, found(world, second))
+    let after = found(world, second);
+    within == overlap.found && how == Some(How::Kept) && after == [false; 4]
 }
 
-/// The same with the lock of the types.
-fn beside_types<R: Wait>(
+/// The same of sections with the lock of the types.
+fn holds_types<R: Wait>(
     world: &World,
     rt: &R,
     first: &mut Pass,
     second: &mut Pass,
-    a: Option<u16>,
-    b: Option<u16>,
-) -> ([bool; 4], How)
+    overlap: &Overlap,
+) -> bool
     requires of { IsOf first.old world.now × IsOf second.old world.now }
     requires surface { Surface first.old × Surface second.old }
     ensures of { IsOf first.new world.now × IsOf second.new world.now }
     ensures surface { Surface first.new × Surface second.new }
 {
     if usize::from(first.sections()) >= MOST_NOTES {
-        return ([false; 4], How::Suspended(0));
+        return false;
     }
-    let types = begin_types(world, rt, first, row(a), row(b));
+    let types = begin_types(world, rt, first, row(overlap.a), row(overlap.b));
     let within = found(world, second);
     let how = end_types(world, rt, first, types).how;
-    (within, how)
+    within == overlap.found && how == How::Kept
+}
+
+/// Goes over the table of overlaps, and gives how many of its rows are as they should be.
+fn rows_right<R: Wait>(
+    world: &World,
+    rt: &R,
+    first: &mut Pass,
+    second: &mut Pass,
+    table: &[Overlap],
+) -> u8
+    requires of { IsOf first.old world.now × IsOf second.old world.now }
+    requires surface { Surface first.old × Surface second.old }
+    ensures of { IsOf first.new world.now × IsOf second.new world.now }
+    ensures surface { Surface first.new × Surface second.new }
+{
+    let mut right = 0;
+    for overlap in table {
+        if holds_rows(world, rt, first, second, overlap) && right < 100 {
+            right += 1;
+        }
+    }
+    right
+}
+
+/// So with the lock of the types.
+fn types_right<R: Wait>(
+    world: &World,
+    rt: &R,
+    first: &mut Pass,
+    second: &mut Pass,
+    table: &[Overlap],
+) -> u8
+    requires of { IsOf first.old world.now × IsOf second.old world.now }
+    requires surface { Surface first.old × Surface second.old }
+{
+    let mut right = 0;
+    for overlap in table {
+        if holds_types(world, rt, first, second, overlap) && right < 100 {
+            right += 1;
+        }
+    }
+    right
+}
+
+/// A row of the table: whether the lock of the types is found held, and each of the first three rows.
+fn finds(a: Option<u16>, b: Option<u16>, found: [bool; 4]) -> Overlap {
+    Overlap { a, b, found }
 }
 
 #[test]
-fn a_section_holds_its_rows(rt: HostRuntime) -> Result<(), OpenFault> {
+fn a_section_holds_its_locks(rt: HostRuntime) -> Result<(), OpenFault> {
     let (world, mut first) = open(rt.alloc())?;
     let Ok(mut second) = second_of(&world, &rt, &mut first) else {
         return Ok(());
     };
-    let table = [
-        (1, None, [false, true, false, false]),
-        (2, Some(2), [false, false, true, false]),
-        (1, Some(3), [false, true, false, true]),
-        (3, Some(1), [false, true, false, true]),
-        (3, Some(2), [false, false, true, true]),
+    let rows = [
+        finds(Some(1), None, [false, true, false, false]),
+        finds(Some(2), Some(2), [false, false, true, false]),
+        finds(Some(1), Some(3), [false, true, false, true]),
+        finds(Some(3), Some(1), [false, true, false, true]),
+        finds(Some(3), Some(2), [false, false, true, true]),
     ];
-    for (a, b, expected) in table {
-        let (within, how, after) = beside(&world, &rt, &mut first, &mut second, a, b);
-        assert_eq!(rt; within, expected);
-        assert_eq!(rt; how, Some(How::Kept));
-        assert_eq!(rt; after, [false; 4]);
-    }
-    Ok(())
-}
-
-#[test]
-fn a_section_of_the_types_holds_their_lock(rt: HostRuntime) -> Result<(), OpenFault> {
-    let (world, mut first) = open(rt.alloc())?;
-    let Ok(mut second) = second_of(&world, &rt, &mut first) else {
-        return Ok(());
-    };
-    let table = [
-        (None, None, [true, false, false, false]),
-        (Some(2), None, [true, false, true, false]),
-        (None, Some(3), [true, false, false, true]),
-        (Some(2), Some(1), [true, true, true, false]),
-        (Some(1), Some(1), [true, true, false, false]),
+    let types = [
+        finds(None, None, [true, false, false, false]),
+        finds(Some(2), None, [true, false, true, false]),
+        finds(None, Some(3), [true, false, false, true]),
+        finds(Some(2), Some(1), [true, true, true, false]),
+        finds(Some(1), Some(1), [true, true, false, false]),
     ];
-    for (a, b, expected) in table {
-        let (within, how) = beside_types(&world, &rt, &mut first, &mut second, a, b);
-        assert_eq!(rt; within, expected);
-        assert_eq!(rt; how, How::Kept);
-    }
+    assert_eq!(rt; rows_right(&world, &rt, &mut first, &mut second, &rows), 5);
+    assert_eq!(rt;
+        types_right(&world, &rt, &mut first, &mut second, &types),
+        5
+    );
     Ok(())
 }
 
@@ -259,8 +299,12 @@ fn suspended<R: Threads + Wait + Sync>(
     enter(world, rt, second, 2, None);
     thread::join(
         rt,
-        || requires { IsOf first.now world.now × Surface first.now } { inner(world, rt, first) },
-        || requires { IsOf second.now world.now × Surface second.now } { once_free(world, rt, second, lock) },
+        ||
+            requires { IsOf first.now world.now × Surface first.now }
+        { inner(world, rt, first) },
+        ||
+            requires { IsOf second.now world.now × Surface second.now }
+        { once_free(world, rt, second, lock) },
     )
 }
 
@@ -306,8 +350,12 @@ fn crossing<R: Threads + Wait + Sync>(
 {
     thread::join(
         rt,
-        || requires { IsOf first.now world.now × Surface first.now } { cross(world, rt, first, 1, 2) },
-        || requires { IsOf second.now world.now × Surface second.now } { cross(world, rt, second, 2, 1) },
+        ||
+            requires { IsOf first.now world.now × Surface first.now }
+        { cross(world, rt, first, 1, 2) },
+        ||
+            requires { IsOf second.now world.now × Surface second.now }
+        { cross(world, rt, second, 2, 1) },
     )
 }
 

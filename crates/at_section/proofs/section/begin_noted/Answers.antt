@@ -18,7 +18,7 @@ returns-clause-begun g c =
     let load = c.load_noted-begun.ensures in
     let push = c.push_note.ensures in
     begins_of c.args.pass.now c.take_all.new.pass c.load_noted-begun.new.pass c.push_note.new.self c.args.note.now c.load_noted-begun.result load.loaded.0 take.moves take.has
-        load.same.0 load.loaded.1 load.loaded.2 load.loaded.3 load.noted push.same push.pushed c.requires.new.0 c.requires.new.1
+    load.same.0 load.loaded.1 load.loaded.2 load.loaded.3 load.noted push.same push.pushed c.requires.new.0 c.requires.new.1
 
 pub returns-clause-held : goal.returns-clause-held
 returns-clause-held g c =

@@ -21,11 +21,11 @@ release_all-requires-clause-giving g c =
     let load = c.load_noted-place.ensures in
     let pop = c.in-Some.ensures in
     giving_popped q r c.in-Some.note (ap (λ x. x.me.0) pop.same.seat) pop.some (ready_noted q r pop.same load.ready)
-        (giving_loaded p q [] load.loaded.0 load.loaded.2 load.noted load.ready (taking_held p [] c.requires.held.0 c.requires.held.1))
+    (giving_loaded p q [] load.loaded.0 load.loaded.2 load.noted load.ready (taking_held p [] c.requires.held.0 c.requires.held.1))
 
 pub returns-clause-ended : goal.returns-clause-ended
 returns-clause-ended g c =
     let load = c.load_noted-place.ensures in
     let pop = c.in-Some.ensures in
     finishes_of c.args.pass.now c.load_noted-place.new.pass c.pop_note.new.self c.release_all.new.pass c.resume.new.pass c.in-Some.note c.load_noted-place.result load.loaded.0 c.how_of.result
-        c.requires.held.0 load.same.0 load.loaded.1 load.loaded.2 load.loaded.3 load.noted pop.same pop.some c.release_all.ensures.moves c.resume.ensures.moves c.how_of.ensures.count c.how_of.ensures.some
+    c.requires.held.0 load.same.0 load.loaded.1 load.loaded.2 load.loaded.3 load.noted pop.same pop.some c.release_all.ensures.moves c.resume.ensures.moves c.how_of.ensures.count c.how_of.ensures.some

@@ -23,6 +23,6 @@ returns-else-has_lock-clause-moves c ls = moves_same ls c.args.pass.now
 
 pub returns-else-has_lock-clause-giving : goal.returns-else-has_lock-clause-giving
 returns-else-has_lock-clause-giving c ls giving = elim c.else-has_lock.branch [
-    | else-has_lock-via-then-has_lock+else-not-is_named w ↦ released_named c.args.pass.now c.args.lock.now ls (sym w.is_named.ensures ∙ w.if-not-is_named.false) giving
-    | else-has_lock-via-else-has_lock w ↦ released_out c.args.pass.now c.args.lock.now ls (sym c.has_lock.ensures ∙ w.if-has_lock.false) giving
-  ]
+  | else-has_lock-via-then-has_lock+else-not-is_named w ↦ released_named c.args.pass.now c.args.lock.now ls (sym w.is_named.ensures ∙ w.if-not-is_named.false) giving
+  | else-has_lock-via-else-has_lock w ↦ released_out c.args.pass.now c.args.lock.now ls (sym c.has_lock.ensures ∙ w.if-has_lock.false) giving
+]

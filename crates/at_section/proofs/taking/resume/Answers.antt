@@ -38,7 +38,7 @@ returns-clause-moves g c =
     let load = c.load_noted.ensures in
     let same : last_of (named_locks (notes p)) ≡ locks_of n = ap (λ ns. last_of (named_locks ns)) some.1 ∙ last_named some.0 n in
     subst (λ (ls : List lock.Lock). Moves ls p r) (sym same)
-        (moves_then (locks_of n) p q r c.take_all.ensures.moves (moves_loaded (locks_of n) q r load.loaded.0 load.same.0 load.loaded.2 load.loaded.3.later load.noted))
+    (moves_then (locks_of n) p q r c.take_all.ensures.moves (moves_loaded (locks_of n) q r load.loaded.0 load.same.0 load.loaded.2 load.loaded.3.later load.noted))
 
 pub returns-clause-held : goal.returns-clause-held
 returns-clause-held g c =

@@ -47,7 +47,7 @@ returns-in-Held-clause-moves g c =
     let miss = c.try_take.ensures.held n c.in-Held.is in
     let first = first_names ls (held (view p)) l c.requires.first in
     moves_then ls p q s (moves_missed ls p q l n c.requires.first c.try_take.ensures.same.0 miss.0 miss.1)
-        (moves_then ls q r s (c.give_all.ensures.moves ls) (moves_waited ls r s l first.0 c.give_all.ensures.none c.take.ensures.same.0 c.take.ensures.taken))
+    (moves_then ls q r s (c.give_all.ensures.moves ls) (moves_waited ls r s l first.0 c.give_all.ensures.none c.take.ensures.same.0 c.take.ensures.taken))
 
 pub returns-in-Held-clause-taking : goal.returns-in-Held-clause-taking
 returns-in-Held-clause-taking g c =
@@ -63,7 +63,7 @@ returns-in-Held-clause-taking g c =
     let ready = ready_missed p q l (suc n) first.1 miss.0 c.try_take.ensures.elsewhere c.requires.taking.ready in
     let after = c.give_all.ensures.taking ls (taking_missed p q ls l (suc n) miss.0 (ap (λ x. x.items) c.try_take.ensures.same.0.notes) ready c.requires.taking) in
     taking_waited r s ls l first.0 c.give_all.ensures.none c.take.ensures.taken (ap (λ x. x.items) c.take.ensures.same.0.notes)
-        (ready_waited r s l c.give_all.ensures.none c.take.ensures.taken c.take.ensures.has c.take.ensures.shut) after.backed
+    (ready_waited r s l c.give_all.ensures.none c.take.ensures.taken c.take.ensures.has c.take.ensures.shut) after.backed
 
 pub returns-in_default-clause-moves : goal.returns-in_default-clause-moves
 returns-in_default-clause-moves g c =
@@ -82,4 +82,4 @@ returns-in_default-clause-taking g c =
     let first = first_names ls (held (view p)) l c.requires.first in
     let got = c.try_take.ensures.got c.in_default.is in
     taking_taken p q ls l got.0.at first.0 got.0.after (ap (λ x. x.items) c.try_take.ensures.same.0.notes)
-        (ready_taken p q l first.1 got.0 got.1 c.try_take.ensures.elsewhere c.requires.taking.ready) c.requires.taking
+    (ready_taken p q l first.1 got.0 got.1 c.try_take.ensures.elsewhere c.requires.taking.ready) c.requires.taking

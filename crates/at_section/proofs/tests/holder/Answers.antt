@@ -8,7 +8,7 @@ use Rattle.at_section.proofs.Settling.{taking_held}
 use Rattle.at_section.proofs.tests.holder.Goals as goal
 
 -- a note that names nothing
-empty : Note
+abbrev empty : Note
 empty = record { types = false; a = None; b = None; active = false; given = 0 }
 
 pub try_take-requires-clause-room : goal.try_take-requires-clause-room
@@ -23,9 +23,11 @@ returns-in-Got c =
     let q = c.try_take.new.pass in
     let r = c.give.new.pass in
     let l = c.args.lock.now in
-    let got = c.try_take.ensures.got c.in-Got.is in
-    (c.give.ensures.same.1, surface_tried p q r l (sym c.has_lock.ensures ∙ c.if-has_lock.false) got.0 got.1 (ap (λ x. x.items) c.try_take.ensures.same.0.notes) c.try_take.ensures.elsewhere
-        c.give.ensures.given (ap (λ x. x.items) c.give.ensures.same.0.notes) c.give.ensures.elsewhere c.requires.surface)
+    let got = c.try_take.ensures.got c.in-Got.is in (
+      c.give.ensures.same.1,
+      surface_tried p q r l (sym c.has_lock.ensures ∙ c.if-has_lock.false) got.0 got.1 (ap (λ x. x.items) c.try_take.ensures.same.0.notes) c.try_take.ensures.elsewhere
+          c.give.ensures.given (ap (λ x. x.items) c.give.ensures.same.0.notes) c.give.ensures.elsewhere c.requires.surface,
+    )
 
 pub returns-in-Held : goal.returns-in-Held
 returns-in-Held c =
