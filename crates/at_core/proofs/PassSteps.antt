@@ -15,10 +15,10 @@ use Rattle.at_core.specs.Reads.{in_hand, slot_number}
 use Rattle.at_core.specs.Rule.{Slot, IsLock}
 
 -- it is the same pass of the same world, and has the same in hand
-pub same_after : (p q : Pass) (world : World) (w : View) → q.seat.table_id ≡ p.seat.table_id → q.seat.id ≡ p.seat.id → q.number ≡ p.number → q.seat.me ≡ (w, p.seat.me.1) → w.who.limits ≡ p.seat.me.0.who.limits → IsOf p world
+pub same_after : (p q : Pass) (world : World) (w : View) → q.seat.table_id ≡ p.seat.table_id → q.seat.id ≡ p.seat.id → q.number ≡ p.number → q.notes ≡ p.notes → q.seat.me ≡ (w, p.seat.me.1) → w.who.limits ≡ p.seat.me.0.who.limits → IsOf p world
     → IsSame p q × IsOf q world × HasSameHand p q
-same_after p q world w table seat number e limits of = (
-  record { table = table; seat = seat; number = number },
+same_after p q world w table seat number notes e limits of = (
+  record { table = table; seat = seat; number = number; notes = notes },
   record { table = table ∙ of.table; limits = ap (λ m. m.0.who.limits) e ∙ (limits ∙ of.limits) },
   λ l. ap (λ m. in_hand (slot_of l) m.1) e,
 )
@@ -54,7 +54,7 @@ pass_after p w online me e leaves = record {
 -- The same pass
 
 pub same_pass : (p : Pass) → IsSame p p
-same_pass p = record { table = refl; seat = refl; number = refl }
+same_pass p = record { table = refl; seat = refl; number = refl; notes = refl }
 
 pub same_then : (p q r : Pass) → IsSame p q → IsSame q r → IsSame p r
-same_then p q r a b = record { table = b.table ∙ a.table; seat = b.seat ∙ a.seat; number = b.number ∙ a.number }
+same_then p q r a b = record { table = b.table ∙ a.table; seat = b.seat ∙ a.seat; number = b.number ∙ a.number; notes = b.notes ∙ a.notes }

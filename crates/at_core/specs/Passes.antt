@@ -2,6 +2,7 @@
 use Rattle.std.specs.Prelude.{◌≡◌, ◌≢◌, ℕ, List, Option}
 use Rattle.at_view.specs.declared.view.View.{View}
 use Rattle.at_core.specs.declared.lock.Lock as lock
+use Rattle.at_core.specs.declared.note.Note.{Note}
 use Rattle.at_core.specs.declared.world.Pass.{Pass}
 use Rattle.at_core.specs.declared.world.World.{World}
 use Rattle.at_core.specs.Locks.{slot_of}
@@ -21,10 +22,20 @@ pub record IsOf (p : Pass) (w : World) : Type 0 where
   pub table : p.seat.table_id ≡ w.table.shared.table_id
   pub limits : (view p).who.limits ≡ w.limits
 
--- the same pass of the same world
+-- what is noted of its critical sections, the innermost last
+abbrev pub notes : Pass → List Note
+notes p = p.notes.items
+
+-- the same pass of the same world, with the same notes
 pub record IsSame (p q : Pass) : Type 0 where
   pub table : q.seat.table_id ≡ p.seat.table_id
   pub seat : q.seat.id ≡ p.seat.id
+  pub number : q.number ≡ p.number
+  pub notes : q.notes ≡ p.notes
+
+-- the same pass, which knows what it knew and has in hand what it had; its notes may be others
+pub record IsNoted (p q : Pass) : Type 0 where
+  pub seat : q.seat ≡ p.seat
   pub number : q.number ≡ p.number
 
 -- what the slot of a lock has, where it is out to the pass

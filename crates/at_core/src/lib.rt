@@ -9,6 +9,7 @@ pub mod keys;
 pub mod laws;
 pub mod lock;
 pub mod locking;
+pub mod note;
 mod open_world;
 mod pass;
 pub mod places;
@@ -20,6 +21,7 @@ mod waiting;
 pub mod world;
 
 pub use lock::Lock;
+pub use note::Note;
 pub use open_world::OpenFault;
 pub use stored::Stored;
 pub use world::{Pass, World};

@@ -3,7 +3,7 @@ ghost use Rattle.std.specs.Prelude.{◌≡◌, ◌≤◌, ◌<◌, ◌+◌, ◌%
 ghost use Rattle.at_types.specs.declared.types.Types as types;
 ghost use Rattle.at_view.specs.Views.{first_view};
 ghost use Rattle.at_core.specs.Opened.{opening_of, AreGood};
-ghost use Rattle.at_core.specs.Passes.{view, hand, IsOf};
+ghost use Rattle.at_core.specs.Passes.{notes, view, hand, IsOf};
 ghost use Rattle.at_core.specs.Rule.{TypesAgree};
 ghost use Rattle.at_core.specs.Runs.{opening_words, opening_lists, AreOpeningSlots};
 ghost use Rattle.at_core.specs.declared.open_world.OpenFault.TheVariants as faults;
@@ -83,11 +83,12 @@ fn first_slots(alloc: Global, limits: &Limits) -> Result<Vec<Option<Stored>>, Al
 }
 
 impl World {
-    /// A world with the class `object` alone, and its first pass, which has number 0, is online and holds no lock. Refused
+    /// A world with the class `object` alone, and its first pass, which has number 0, is online, holds no lock and has no notes. Refused
     /// with `BadLimits` exactly where a limit is out of its range: `place_max` above 4,294,967,295, `head_max` odd, 0 or
     /// above 1,099,511,627,774, `tags` 0 or above 1,023. The table, the pool of tags, limbo and the lists are taken here.
     pub fn open(alloc: Global, limits: Limits) -> Result<(World, Pass), OpenFault>
         ensures ok { IfOk result (λ r. IsOf r.1 r.0 × (r.0.limits ≡ limits) × (view r.1 ≡ first_view limits) × (hand r.1 ≡ [])) }
+        ensures noted { IfOk result (λ r. notes r.1 ≡ []) }
         ensures good { IfOk result (λ r. AreGood limits) }
         ensures bad { IfErr result (λ fault. (fault ≡ faults.BadLimits) ↔ (AreGood limits → ⊥)) }
     {
@@ -105,6 +106,7 @@ impl World {
             number: 0,
             online: true,
             hand: ArrayVec::new(),
+            notes: ArrayVec::new(),
         };
         let world = World {
             table,

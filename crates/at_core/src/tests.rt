@@ -10,7 +10,7 @@ use crate::keys::{append_key, load_key};
 use crate::locking::{slot_in, slot_out, try_lock, unlock};
 use crate::places::{commit, commit_if, load_place, store_intent};
 use crate::world::MOST_HELD;
-use crate::{Lock, OpenFault, Pass, Stored, World, laws};
+use crate::{Lock, Note, OpenFault, Pass, Stored, World, laws};
 use at_value::{Class, Limits, Name, Obj};
 
 #[test]
@@ -281,5 +281,45 @@ fn an_object_is_given_a_value(rt: HostRuntime) -> Result<(), OpenFault> {
     assert_eq!(rt; load_key(&world, &mut pass, c, 1), 0);
     assert_eq!(rt; load_inline(&world, &mut pass, o, 0), NOTHING);
     assert_eq!(rt; load_inline(&world, &mut pass, o, 1), 0);
+    Ok(())
+}
+
+/// What is noted of a section of one row.
+fn note_of(o: u16, active: bool, given: u32) -> Note {
+    Note {
+        types: false,
+        a: Obj::new(o),
+        b: None,
+        active,
+        given,
+    }
+}
+
+#[test]
+fn notes_are_the_innermost_last(rt: HostRuntime) -> Result<(), OpenFault> {
+    let (_world, mut pass) = World::open(rt.alloc(), Limits::program())?;
+    assert_eq!(rt; pass.sections(), 0);
+    assert_eq!(rt; pass.pop_note(), None);
+    pass.push_note(note_of(7, true, 0));
+    pass.push_note(note_of(3, false, 2));
+    assert_eq!(rt; pass.sections(), 2);
+    assert_eq!(rt; pass.note_at(0), Some(note_of(7, true, 0)));
+    assert_eq!(rt; pass.note_at(2), None);
+    pass.set_note(0, note_of(7, false, 1));
+    assert_eq!(rt; pass.pop_note(), Some(note_of(3, false, 2)));
+    assert_eq!(rt; pass.pop_note(), Some(note_of(7, false, 1)));
+    assert_eq!(rt; pass.sections(), 0);
+    Ok(())
+}
+
+#[test]
+fn a_pass_has_what_it_took(rt: HostRuntime) -> Result<(), OpenFault> {
+    let (world, mut pass) = World::open(rt.alloc(), Limits::program())?;
+    let lock = Lock::Row(Obj::new(4_095).unwrap());
+    assert_eq!(rt; pass.front_lock(), None);
+    assert_eq!(rt; try_lock(&world, &mut pass, lock), 0);
+    assert!(rt; pass.has_lock(&lock));
+    assert!(rt; !pass.has_lock(&Lock::Types));
+    assert_eq!(rt; pass.front_lock(), Some(lock));
     Ok(())
 }

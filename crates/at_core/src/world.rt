@@ -10,6 +10,7 @@ ghost use Rattle.at_core.specs.Reads.{in_hand, slot_number};
 ghost use Rattle.at_core.specs.Rule.{IsLock};
 ghost use Rattle.at_types.specs.Tags.{times};
 
+use crate::note::{MOST_NOTES, Note};
 use crate::stored::Stored;
 use arrayvec::ArrayVec;
 use at_value::Limits;
@@ -58,6 +59,8 @@ pub struct Pass {
     pub(crate) online: bool,
     /// The numbers of the slots in hand, the front first.
     pub(crate) hand: ArrayVec<u16, MOST_HELD>,
+    /// Its critical sections, the innermost last.
+    pub(crate) notes: ArrayVec<Note, MOST_NOTES>,
     ghost live: { seat.me.0.who.live ≡ true },
     ghost numbered: { (seat.me.0.who.number ≡ number) × (number < passes) },
     ghost turned: { seat.me.0.tags.online ≡ online },

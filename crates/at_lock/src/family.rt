@@ -4,7 +4,7 @@ ghost use mathlib.Core.List.{IsPrefix};
 ghost use Rattle.at_types.specs.Tags.{times};
 ghost use Rattle.at_core.specs.declared.lock.Lock.TheVariants as locks;
 ghost use Rattle.at_core.specs.declared.stored.Stored.TheVariants as stored;
-ghost use Rattle.at_core.specs.Passes.{view, hand, IsOf, IsSame, HasSameHand};
+ghost use Rattle.at_core.specs.Passes.{notes, view, hand, IsOf, IsSame, HasSameHand};
 ghost use Rattle.at_core.specs.Plays.{Brought};
 ghost use Rattle.at_core.specs.Steps.{given, IsShut, MayGoOffline};
 ghost use Rattle.at_core.specs.Locks.{HoldsNone};
@@ -59,7 +59,7 @@ pub fn split<R: Wait>(world: &World, rt: &R, pass: &mut Pass) -> Result<Pass, No
     ensures same { IsSame pass.old pass.new × IsOf pass.new world.now }
     ensures out { HoldsNone (view pass.new) }
     ensures ok { IfOk result (λ new. IsSplit (view pass.old) (view pass.new) (view new)) }
-    ensures new { IfOk result (λ new. IsOf new world.now × (hand new ≡ []) × HoldsNone (view new)) }
+    ensures new { IfOk result (λ new. IsOf new world.now × (hand new ≡ []) × (notes new ≡ []) × HoldsNone (view new)) }
     ensures child { IfOk result (λ new. 0 < times (view new).history.birth (view pass.new).who.children) }
     ensures children { (b : ℕ) → times b (view pass.old).who.children ≤ times b (view pass.new).who.children }
     ensures full { IfErr result (λ _. HasNoNumber (view pass.old) (view pass.new)) }

@@ -45,7 +45,7 @@ pub returns-clause-same : goal.returns-clause-same
 returns-clause-same c =
     let small : c.args.o < objects = omega arith in
     let t = c.load.ensures.2 c.args.o c.args.i small c.requires.index c.inline_value.ensures in
-    same_after c.args.pass.now _ c.args.world.now (inline_loaded c.args.pass.now.seat.me.0 c.args.o c.args.i t.0 c.load.result) c.load.ensures.0 c.load.ensures.1 refl t.1 refl c.requires.of
+    same_after c.args.pass.now _ c.args.world.now (inline_loaded c.args.pass.now.seat.me.0 c.args.o c.args.i t.0 c.load.result) c.load.ensures.0 c.load.ensures.1 refl refl t.1 refl c.requires.of
 
 pub returns-clause-loaded : goal.returns-clause-loaded
 returns-clause-loaded c =

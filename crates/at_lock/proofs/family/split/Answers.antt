@@ -104,7 +104,7 @@ returns-clause-new g c =
     let held = view c.take.new.pass in
     let new = c.come_online.new.pass in
     let free : HoldsNone (view new) = λ l. online_free (child held) (view new) l (comes_online g c) ∙ holds_child l held in
-    (c.come_online.ensures.same.1, empty_hand new free, free)
+    (c.come_online.ensures.same.1, empty_hand new free, ap (λ x. x.items) c.come_online.ensures.same.0.notes ∙ c.split_off-new.ensures.new.2, free)
 
 pub returns-clause-child : goal.returns-clause-child
 returns-clause-child g c =

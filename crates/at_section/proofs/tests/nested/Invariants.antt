@@ -1,0 +1,9 @@
+use Rattle.at_core.specs.Passes.{IsOf}
+use Rattle.at_section.specs.Surfaces.{Surface}
+use Rattle.at_section.proofs.tests.nested.Given as goal
+
+abbrev pub invariant-loop-i : goal.invariant-loop-i
+invariant-loop-i g l = IsOf l.pass l.world × Surface l.pass
+
+abbrev pub invariant-loop : goal.invariant-loop
+invariant-loop g l = IsOf l.pass l.world × Surface l.pass

@@ -1,0 +1,6 @@
+pub mod Deeds
+pub mod Scores
+pub mod Sections
+pub mod Surfaces
+pub mod Calls
+pub mod Kept
