@@ -1,5 +1,5 @@
 -- Inline values that are listed one by one.
-use Rattle.std.proofs.Common.{ℕ, zero, suc, ◌≡◌, ◌≢◌, ◌<◌, ◌≤◌, ◌+◌, ◌-◌, is_some, if◌then◌else◌, ◌⊎◌, ⊎_elim, List, length, slice_index, Option, Some, None, ap, sym, subst, ◌∙◌, refl, arith}
+use Rattle.std.proofs.Common.{ℕ, zero, suc, ◌≡◌, ◌≢◌, ◌<◌, ◌≤◌, ◌+◌, ◌-◌, is_some, if◌then◌else◌, ⊎_elim, List, length, slice_index, Option, None, ap, sym, subst, ◌∙◌, refl, arith}
 use Rattle.std.proofs.lemmas.Bool.{cases_lt}
 use mathlib.Core.Logic.{dite}
 use native.Mathlib.Decide.{ℕ_discrete}
@@ -9,7 +9,7 @@ use Rattle.at_value.specs.Pairs.{IsRising, value_at, with_value}
 use Rattle.at_value.specs.Words.{HasWord, word_of}
 use Rattle.at_value.proofs.Maps.{put_here, put_elsewhere, put_rising}
 use Rattle.at_dict.specs.Dictionary.{Dictionary, spare_with}
-use Rattle.at_dict.specs.Inline.{IsCell, IsWordOf, IsWordUnder, NoneIs, AreInline, AreValuesOf}
+use Rattle.at_dict.specs.Inline.{IsWordOf, IsWordUnder, AreInline, AreValuesOf}
 use Rattle.at_dict.proofs.Rooms.{length-with_value}
 
 abbrev pub Map : Type 0

@@ -58,10 +58,25 @@ fn a_spare_place_for_each_new_name(rt: HostRuntime) -> Result<(), AllocError> {
 fn inline_values_come_by_rising_name(rt: HostRuntime) -> Result<(), AllocError> {
     let mut body = Body::new(rt.alloc());
     body.reserve(8)?;
-    let words = [to_word(Value::Int(7)), to_word(Value::Nothing), 0, 0, 0, 0, 0, 0];
+    let words = [
+        to_word(Value::Int(7)),
+        to_word(Value::Nothing),
+        0,
+        0,
+        0,
+        0,
+        0,
+        0,
+    ];
     body.from_inline(&[201, 101, 0, 0, 0, 0, 0, 0], &words);
-    assert_eq!(rt; body.at(0), Name::new(100).map(|name| (name, Value::Nothing)));
-    assert_eq!(rt; body.at(1), Name::new(200).map(|name| (name, Value::Int(7))));
+    assert_eq!(rt;
+        body.at(0),
+        Name::new(100).map(|name| (name, Value::Nothing))
+    );
+    assert_eq!(rt;
+        body.at(1),
+        Name::new(200).map(|name| (name, Value::Int(7)))
+    );
     assert_eq!(rt; body.at(2), None);
     Ok(())
 }
