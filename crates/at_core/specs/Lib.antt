@@ -14,5 +14,6 @@ pub mod PlacePlays
 pub mod HeadPlays
 pub mod Runs
 pub mod Opened
+pub mod Closing
 pub mod Passes
 pub mod SomeRun

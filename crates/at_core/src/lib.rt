@@ -2,13 +2,16 @@
 //! rule.
 #![tactic(auto)]
 
+mod close_world;
 pub mod family;
 mod hand;
+mod head_word;
 pub mod heads;
 pub mod keys;
 pub mod laws;
 pub mod lock;
 pub mod locking;
+mod object_end;
 mod open_world;
 mod pass;
 pub mod places;
@@ -19,6 +22,7 @@ mod tests;
 mod waiting;
 pub mod world;
 
+pub use close_world::Unclosed;
 pub use lock::Lock;
 pub use open_world::OpenFault;
 pub use stored::Stored;
