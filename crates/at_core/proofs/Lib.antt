@@ -40,3 +40,4 @@ pub mod HandOf
 pub mod PassSteps
 pub mod Written
 pub mod HeldStays
+pub mod Closing
