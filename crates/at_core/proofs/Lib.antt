@@ -41,3 +41,5 @@ pub mod PassSteps
 pub mod Written
 pub mod HeldStays
 pub mod Closing
+pub mod ClosingValues
+pub mod ClosingRows

@@ -27,7 +27,7 @@ use crate::stored::Stored;
 use crate::world::{MOST_HELD, Pass, World};
 use at_dict::Body;
 use at_model::ObjEnd;
-use at_value::{Class, Obj, Pairs};
+use at_value::{Class, Obj, Pairs, word_laws};
 use at_view::words::{INLINE_VALUES, KEYS};
 use std::alloc::{AllocError, Global};
 
@@ -165,6 +165,7 @@ fn load_values(world: &World, pass: &mut Pass, o: Obj) -> [u64; INLINE_VALUES]
     ensures loaded { HasLoaded pass.old pass.new }
     ensures cells { (i : ℕ) → IsCell (slice_index result i) }
     ensures copied { (i : ℕ) → i < inline_values → slice_index result i ≡ copied_values (view pass.old) o i }
+    ensures long { length result ≡ inline_values }
 {
     let mut words = [0; INLINE_VALUES];
     for i in 0..INLINE_VALUES {
@@ -196,6 +197,7 @@ fn inline_pairs(world: &World, pass: &mut Pass, alloc: Global, o: Obj, c: Class)
     ensures loaded { HasLoaded pass.old pass.new }
     ensures pairs { IfOk result (λ pairs. pairs ≡ dictionary_of (now_of world.now.limits (view pass.old)) o) }
 {
+    word_laws();
     let keys = load_keys(world, pass, c);
     let words = load_values(world, pass, o);
     pairs_of(alloc, &keys, &words)
