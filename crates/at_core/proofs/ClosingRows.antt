@@ -21,7 +21,7 @@ use Rattle.at_core.specs.Passes.{view, hand, slot_at}
 use Rattle.at_core.specs.Plays.{RowsAreNamed}
 use Rattle.at_core.specs.Reads.{slot_number}
 use Rattle.at_core.specs.Rule.{BodyAgrees}
-use Rattle.at_core.specs.Steps.{copied_heads}
+use Rattle.at_core.specs.Steps.{copied_heads, HoldsTypesAlone}
 use Rattle.at_core.proofs.Closing.{same_longer, still_longer, held_loaded, copy_loaded}
 use Rattle.at_core.proofs.Counts.{times_cons, weight_same}
 use Rattle.at_core.proofs.HandOf.{held_slots}
@@ -130,3 +130,37 @@ has_room p o one =
     let all = few 0 (suc o) (map slot_number (hand p)) (λ k there. held_slots p o one.rows k there) in
     let long = length-map (hand p) slot_number in
     omega arith
+
+-- Reading one object, from the take of its row to the give
+
+pub no_row : (v : View) (o : ℕ) → HoldsTypesAlone v → HoldsOneRow v o
+no_row v o only = record { types = only.types; rows = λ r _. only.rows r }
+
+pub one_row : (p m n : Pass) (o : ℕ) → HoldsTypesAlone (view p) → IsBeside p m o → HasLoaded m n → HoldsOneRow (view n) o
+one_row p m n o only a b = record {
+  types = ap (λ y. y.held) (held_loaded m n locks.Types b) ∙ (ap (λ y. y.held) (a.others locks.Types (types_apart o)) ∙ only.types);
+  rows = λ r ne. ap (λ y. y.held) (held_loaded m n (locks.Row r) b) ∙ (ap (λ y. y.held) (a.others (locks.Row r) (rows_apart r o ne)) ∙ only.rows r);
+}
+
+pub read_row : (p m n k q : Pass) (o : ℕ) → HoldsTypesAlone (view p) → IsBeside p m o → HasLoaded m n → HasRead n k → IsBeside k q o → holds (locks.Row o) (view q) ≡ false → HasRead p q
+read_row p m n k q o only a b c d out = record {
+  same = same_longer p m q a.same (same_longer m n q b.same (same_longer n k q c.same d.same));
+  still = still_longer (view p) (view m) (view q) a.still (still_longer (view m) (view n) (view q) b.still (still_longer (view n) (view k) (view q) c.still d.still));
+  types = d.types ∙ (c.types ∙ (b.types ∙ a.types));
+  held = held;
+  slot = d.slots locks.Types (types_apart o) ∙ (c.slot ∙ (b.slots locks.Types ∙ a.slots locks.Types (types_apart o)));
+}
+  where
+    other : (l : lock.Lock) → l ≢ locks.Row o → holds l (view q) ≡ holds l (view p)
+    other l ne =
+        ap (λ y. y.held) (d.others l ne) ∙ (c.held l ∙ (ap (λ y. y.held) (held_loaded m n l b) ∙ ap (λ y. y.held) (a.others l ne)))
+
+    held : (l : lock.Lock) → holds l (view q) ≡ holds l (view p)
+    held locks.Types = other locks.Types (types_apart o)
+    held (locks.Row r) = dite (ℕ_discrete r o)
+        (λ (e : r ≡ o). subst (λ (i : ℕ). holds (locks.Row i) (view q) ≡ holds (locks.Row i) (view p)) (sym e) (out ∙ sym (only.rows o)))
+        (λ (ne : r ≢ o). other (locks.Row r) (rows_apart r o ne))
+
+-- the pass holds what it held
+pub still_alone : (p q : Pass) → HasRead p q → HoldsTypesAlone (view p) → HoldsTypesAlone (view q)
+still_alone p q a only = record { types = a.held locks.Types ∙ only.types; rows = λ r. a.held (locks.Row r) ∙ only.rows r }

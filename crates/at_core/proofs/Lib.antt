@@ -43,3 +43,4 @@ pub mod HeldStays
 pub mod Closing
 pub mod ClosingValues
 pub mod ClosingRows
+pub mod ClosingTypes

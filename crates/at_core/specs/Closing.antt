@@ -1,6 +1,6 @@
 -- What a pass knows while it closes its world. It is the only one, so all that it has seen is all that was written, and what it
 -- reads under locks is what there is at the end.
-use Rattle.std.specs.Prelude.{ℕ, ◌≡◌, ◌≢◌, true, false, [], Some, slice_get, slice_index_or}
+use Rattle.std.specs.Prelude.{ℕ, ◌≡◌, ◌≢◌, true, false, [], Some, None, slice_get, slice_index_or}
 use Rattle.at_value.specs.declared.limits.Limits.{Limits}
 use Rattle.at_dict.specs.Dictionary.{Dictionary}
 use Rattle.at_model.specs.declared.last.ObjEnd.{ObjEnd}
@@ -8,6 +8,7 @@ use Rattle.at_model.specs.declared.rows.Object.{Object}
 use Rattle.at_model.specs.Final.{object_end}
 use Rattle.at_model.specs.History.{replay}
 use Rattle.at_model.specs.World as model
+use Rattle.at_types.specs.Types.{TypesState}
 use Rattle.at_view.specs.declared.view.View.{View}
 use Rattle.at_core.specs.declared.lock.Lock as lock
 use Rattle.at_core.specs.declared.lock.Lock.TheVariants as locks
@@ -19,8 +20,8 @@ use Rattle.at_core.specs.Inline.{IsHeadOf}
 use Rattle.at_core.specs.Locks.{hold_of, holds, copy_at, HoldsNone}
 use Rattle.at_core.specs.Opened.{opening_of}
 use Rattle.at_core.specs.Passes.{view, hand, slot_at, IsSame, HasSameHand, IsElsewhereSame}
-use Rattle.at_core.specs.Rule.{BodyAgrees}
-use Rattle.at_core.specs.Steps.{copied_heads}
+use Rattle.at_core.specs.Rule.{BodyAgrees, TypesAgree}
+use Rattle.at_core.specs.Steps.{copied_heads, HoldsTypesAlone}
 
 -- the world after all that the pass has seen
 abbrev pub now_of : Limits → View → model.World
@@ -69,6 +70,13 @@ pub record HasRead (p q : Pass) : Type 0 where
   pub types : (view q).types ≡ (view p).types
   pub held : (l : lock.Lock) → holds l (view q) ≡ holds l (view p)
   pub slot : slot_at q locks.Types ≡ slot_at p locks.Types
+
+-- The pass has the lock of the types and no other, and has the types out of their slot, which are those of the world.
+pub record HasTypes (w : model.World) (p : Pass) (t : TypesState) : Type 0 where
+  pub only : HoldsTypesAlone (view p)
+  pub since : (view p).types.hold.since ≡ (view p).history.seen
+  pub out : slot_at p locks.Types ≡ Some None
+  pub agrees : TypesAgree (view p).who.limits.tags w (view p).types.lists t
 
 -- The pass has the lock of a row: the head of the row's object is whole, and the dictionary in the slot is that of the world.
 pub record HasRow (w : model.World) (p : Pass) (o : ℕ) : Type 0 where

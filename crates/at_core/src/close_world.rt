@@ -3,9 +3,9 @@ ghost use Rattle.std.specs.Prelude.{◌≡◌, ◌≤◌, ℕ, IfOk, IfErr, leng
 ghost use Rattle.at_types.specs.Types.{StandsFor};
 ghost use Rattle.at_model.specs.Final.{final_of, class_ends, object_end};
 ghost use Rattle.at_model.specs.World as world;
-ghost use Rattle.at_core.specs.Closing.{now_of, HasRead, IsBack};
+ghost use Rattle.at_core.specs.Closing.{now_of, HasRead, HasTypes, IsBack, IsStill};
 ghost use Rattle.at_core.specs.Locks.{HoldsNone};
-ghost use Rattle.at_core.specs.Passes.{view, IsOf};
+ghost use Rattle.at_core.specs.Passes.{view, IsOf, IsSame};
 ghost use Rattle.at_core.specs.Plays.{IsAlone};
 ghost use Rattle.at_core.specs.Steps.{HoldsTypesAlone};
 
@@ -97,6 +97,33 @@ fn ends_of_all(world: &World, pass: &mut Pass, alloc: Global, types: &Types) -> 
     Ok(Final { classes, objects })
 }
 
+/// Takes the types out of their slot, under their lock.
+fn take_types(world: &World, pass: &mut Pass) -> Box<Types>
+    requires of { IsOf pass.old world.now }
+    requires alone { IsAlone (view pass.old) }
+    requires out { HoldsNone (view pass.old) }
+    ensures of { IsOf pass.new world.now }
+    ensures same { IsSame pass.old pass.new × IsStill (view pass.old) (view pass.new) }
+    ensures types { HasTypes (now_of world.now.limits (view pass.new)) pass.new result.value }
+{
+    take_alone(world, pass, Lock::Types);
+    match slot_out(world, pass, Lock::Types) {
+        Stored::Types(types) => types,
+        Stored::Body(_) => unreachable!(),
+    }
+}
+
+/// Puts the types back and gives back their lock.
+fn give_types(world: &World, pass: &mut Pass, types: Box<Types>)
+    requires of { IsOf pass.old world.now }
+    requires types { HasTypes (now_of world.now.limits (view pass.old)) pass.old types.value }
+    ensures of { IsOf pass.new world.now }
+    ensures back { IsBack pass.old pass.new }
+{
+    slot_in(world, pass, Lock::Types, Stored::Types(types));
+    unlock(world, pass, Lock::Types);
+}
+
 /// The final namespaces, which the pass reads under the lock of the types. Each lock that it takes it gives back.
 fn last_of(world: &World, pass: &mut Pass, alloc: Global) -> Result<Final, AllocError>
     requires of { IsOf pass.old world.now }
@@ -106,16 +133,10 @@ fn last_of(world: &World, pass: &mut Pass, alloc: Global) -> Result<Final, Alloc
     ensures back { IsBack pass.old pass.new }
     ensures last { IfOk result (λ last. last ≡ final_of (now_of world.now.limits (view pass.old))) }
 {
-    take_alone(world, pass, Lock::Types);
-    match slot_out(world, pass, Lock::Types) {
-        Stored::Types(types) => {
-            let last = ends_of_all(world, pass, alloc, &types);
-            slot_in(world, pass, Lock::Types, Stored::Types(types));
-            unlock(world, pass, Lock::Types);
-            last
-        }
-        Stored::Body(_) => unreachable!(),
-    }
+    let types = take_types(world, pass);
+    let last = ends_of_all(world, pass, alloc, &types);
+    give_types(world, pass, types);
+    last
 }
 
 impl World {
