@@ -1,5 +1,5 @@
 -- The ends of classes and of objects, listed one by one.
-use Rattle.std.proofs.Common.{ℕ, zero, suc, ◌≡◌, ◌≢◌, ◌<◌, ◌≤◌, ◌+◌, Bool, true, false, true≢false, List, [], ◌∷◌, ◌++◌, append_assoc, append-nil, length, map, take, drop, drop-cons, slice_get, Option, Some, None, is_some, IfOk, ap, sym, subst, ◌∙◌, refl, arith}
+use Rattle.std.proofs.Common.{Box, Global, ℕ, zero, suc, ◌≡◌, ◌≢◌, ◌<◌, ◌≤◌, ◌+◌, Bool, true, false, true≢false, List, [], ◌∷◌, ◌++◌, append_assoc, append-nil, length, map, take, drop, drop-cons, slice_get, Option, Some, None, is_some, IfOk, ap, sym, subst, ◌∙◌, refl, arith}
 use Rattle.std.proofs.lemmas.List.{take_more, map-append, drop_all}
 use Rattle.std.proofs.lemmas.Option.{get_or_from_slice_get}
 use Rattle.at_value.specs.declared.limits.Limits.{Limits}
@@ -11,61 +11,32 @@ use Rattle.at_model.specs.Final.{class_ends, object_end, order_or_empty}
 use Rattle.at_model.specs.History.{replay}
 use Rattle.at_model.specs.World as model
 use Rattle.at_model.specs.World.{opening}
+use Rattle.at_model.proofs.WorldSteps.{replay-formed}
+use Rattle.at_model.proofs.Worlds.{opening_is_formed}
+use Rattle.at_types.specs.declared.types.Types as types
 use Rattle.at_types.specs.Types.{TypesState, StandsFor}
+use Rattle.at_view.specs.declared.view.Who.{Who}
+use Rattle.at_view.specs.declared.view.TypesView.{TypesView}
 use Rattle.at_view.specs.declared.view.View.{View}
 use Rattle.at_core.specs.declared.world.Pass.{Pass}
 use Rattle.at_core.specs.declared.world.World as world
-use Rattle.at_core.specs.Closing.{now_of, HasRead, IsEndOf, IsStill}
-use Rattle.at_core.specs.Passes.{view, IsOf}
+use Rattle.at_core.specs.Closing.{now_of, HasRead, HasTypes, IsBack, IsEndOf, IsStill}
+use Rattle.at_core.specs.declared.lock.Lock as lock
+use Rattle.at_core.specs.declared.lock.Lock.TheVariants as locks
+use Rattle.at_core.specs.declared.stored.Stored.{Stored}
+use Rattle.at_core.specs.declared.stored.Stored.TheVariants as stored
+use Rattle.at_core.specs.Locks.{holds, HoldsNone}
+use Rattle.at_core.specs.Opened.{opening_of}
+use Rattle.at_core.specs.Passes.{view, slot_at, IsOf, IsSame}
+use Rattle.at_core.specs.Plays.{Took}
+use Rattle.at_core.specs.Rule.{TypesAgree}
+use Rattle.at_core.specs.Steps.{Moment, taken, given, HoldsTypesAlone}
+use Rattle.at_core.proofs.ClosingRows.{still_alone}
+use Rattle.at_core.proofs.HandOf.{empty_hand}
 
 -- the ends so far, and those of the classes that are left, in each world that the types stand for
 abbrev pub AreEnds : TypesState → ℕ → List ClassEnd → Type 0
 AreEnds t i ends = (w : model.World) → StandsFor t w → ends ++ class_ends w i (drop i w.classes) ≡ class_ends w 0 w.classes
-
--- what a class that is made has at the end
-abbrev pub end_in : TypesState → ℕ → ClassEnd
-end_in t c = record { class = c; order = order_or_empty (model.order_in t.classes c); own = model.own_of (model.row_of t.classes c) }
-
-next_row : (w : model.World) (i : ℕ) → i < length w.classes → drop i w.classes ≡ model.row_of w.classes i ∷ drop (suc i) w.classes
-next_row w i lt = drop-cons w.classes i None lt
-
-pub ends_none : (t : TypesState) (i next : ℕ) (ends : List ClassEnd) → next ≡ suc i → i < length t.classes → is_some (model.row_of t.classes i) ≡ false → AreEnds t i ends → AreEnds t next ends
-ends_none t i next ends is lt none h w s =
-    let lt_there : i < length w.classes = subst (λ (rows : List (Option ClassRow)). i < length rows) s.classes lt in
-    let here : model.row_of w.classes i ≡ None = none_of (model.row_of w.classes i) (ap (λ rows. is_some (model.row_of rows i)) (sym s.classes) ∙ none) in
-    let rows : drop i w.classes ≡ None ∷ drop (suc i) w.classes = next_row w i lt_there ∙ ap (λ row. row ∷ drop (suc i) w.classes) here in
-    subst (λ (k : ℕ). ends ++ class_ends w k (drop k w.classes) ≡ class_ends w 0 w.classes) (sym is)
-    (sym (ap (λ rs. ends ++ class_ends w i rs) rows) ∙ h w s)
-  where
-    none_of : (row : Option ClassRow) → is_some row ≡ false → row ≡ None
-    none_of None e = refl
-    none_of (Some row) e = absurd (true≢false e)
-
-pub ends_some : (t : TypesState) (i next : ℕ) (ends more : List ClassEnd) (end : ClassEnd) → next ≡ suc i → i < length t.classes → is_some (model.row_of t.classes i) ≡ true
-    → end ≡ end_in t i → more ≡ ends ++ end ∷ [] → AreEnds t i ends → AreEnds t next more
-ends_some t i next ends more end is lt some end_is more_is h w s =
-    let lt_there : i < length w.classes = subst (λ (rows : List (Option ClassRow)). i < length rows) s.classes lt in
-    let there : is_some (model.row_of w.classes i) ≡ true = ap (λ rows. is_some (model.row_of rows i)) (sym s.classes) ∙ some in
-    let in_world : end ≡ record { class = i; order = order_or_empty (model.order_in w.classes i); own = model.own_of (model.row_of w.classes i) } =
-    end_is ∙ ap (λ (rows : List (Option ClassRow)). end_of rows) s.classes in
-    let one : class_ends w i (drop i w.classes) ≡ end ∷ class_ends w (suc i) (drop (suc i) w.classes) =
-    ap (class_ends w i) (next_row w i lt_there) ∙ (first (model.row_of w.classes i) there (drop (suc i) w.classes) ∙ ap (λ x. x ∷ class_ends w (suc i) (drop (suc i) w.classes)) (sym in_world)) in
-    subst (λ (k : ℕ). more ++ class_ends w k (drop k w.classes) ≡ class_ends w 0 w.classes) (sym is)
-    (ap (λ xs. xs ++ class_ends w (suc i) (drop (suc i) w.classes)) more_is
-    ∙ (append_assoc ends (end ∷ []) (class_ends w (suc i) (drop (suc i) w.classes)) ∙ (ap (λ xs. ends ++ xs) (sym one) ∙ h w s)))
-  where
-    end_of : List (Option ClassRow) → ClassEnd
-    end_of rows = record { class = i; order = order_or_empty (model.order_in rows i); own = model.own_of (model.row_of rows i) }
-
-    first : (row : Option ClassRow) → is_some row ≡ true → (rest : List (Option ClassRow))
-        → class_ends w i (row ∷ rest) ≡ record { class = i; order = order_or_empty (model.order_of w i); own = model.own_of row } ∷ class_ends w (suc i) rest
-    first None e rest = absurd (true≢false (sym e))
-    first (Some row) e rest = refl
-
-pub ends_all : (t : TypesState) (i : ℕ) (ends : List ClassEnd) → length t.classes ≤ i → AreEnds t i ends → (w : model.World) → StandsFor t w → ends ≡ class_ends w 0 w.classes
-ends_all t i ends le h w s =
-    let past : length w.classes ≤ i = subst (λ (rows : List (Option ClassRow)). length rows ≤ i) s.classes le in
-    sym (append-nil ends) ∙ (ap (λ rows. ends ++ class_ends w i rows) (sym (drop_all i w.classes past)) ∙ h w s)
 
 -- Objects
 
@@ -96,3 +67,47 @@ object_more limits v w i next ends more end is still lt h ended more_is =
     let listed : take (i + 1) objects ≡ take i objects ++ found ∷ [] = take_more objects i found lt ∙ ap (λ x. take i objects ++ x ∷ []) (get_or_from_slice_get objects i found found here) in
     more_is ∙ (ap (λ xs. xs ++ end ∷ []) h ∙ (ap (λ x. map (object_end now) (take i objects) ++ x ∷ []) end_is
     ∙ (sym (map-append (object_end now) (take i objects) (found ∷ [])) ∙ ap (map (object_end now)) (sym listed ∙ ap (λ k. take k objects) (sym is)))))
+
+pub now_formed : (limits : Limits) (v : View) → model.IsWellFormed (now_of limits v)
+now_formed limits v = replay-formed opening v.history.seen opening_is_formed
+
+-- The lock of the types, with the types out of their slot
+
+types_agree : (limits : Limits) (v : View) (at : Moment) (x : Stored) (box : Box types.Types Global) → Took (opening_of limits) locks.Types v at x → x ≡ stored.Types box
+    → TypesAgree v.who.limits.tags (replay opening at.history) at.lists box.value
+types_agree limits v at x box took is =
+    let value = took.value in
+    let same : box ≡ value.0 = (let a = value.1 in cc) in
+    subst (λ (b : Box types.Types Global). TypesAgree v.who.limits.tags (replay opening at.history) at.lists b.value) (sym same) value.2
+
+pub has_types : (limits : Limits) (q : Pass) (v : View) (at : Moment) (x : Stored) (box : Box types.Types Global) → HoldsNone v → view q ≡ taken locks.Types v at → slot_at q locks.Types ≡ Some None
+    → Took (opening_of limits) locks.Types v at x → x ≡ stored.Types box → HasTypes (now_of limits (view q)) q box.value
+has_types limits q v at x box none after out took is = record {
+  only = subst HoldsTypesAlone (sym after) (record { types = refl; rows = λ o. none (locks.Row o) });
+  since = subst (λ (w : View). w.types.hold.since ≡ w.history.seen) (sym after) refl;
+  out = out;
+  agrees = subst (λ (w : View). TypesAgree w.who.limits.tags (now_of limits w) w.types.lists box.value) (sym after) (types_agree limits v at x box took is);
+}
+
+pub types_stay : (limits : Limits) (p q : Pass) (t : TypesState) → HasRead p q → HasTypes (now_of limits (view p)) p t → HasTypes (now_of limits (view q)) q t
+types_stay limits p q t a h =
+    let seen : (view q).history.seen ≡ (view p).history.seen = ap (λ y. y.seen) a.still.history in
+    let Q : Who × model.World × TypesView → Type 0 = λ k. TypesAgree k.0.limits.tags k.1 k.2.lists t in
+    record {
+      only = still_alone p q a h.only;
+      since = ap (λ y. y.hold.since) a.types ∙ (h.since ∙ sym seen);
+      out = a.slot ∙ h.out;
+      agrees = subst Q (λ i. (sym a.still.who i, sym (now_same limits (view p) (view q) a.still) i, sym a.types i)) h.agrees;
+    }
+
+-- once the lock is given back, the pass is as it was
+pub types_back : (p q : Pass) → IsSame p q → HoldsTypesAlone (view p) → view q ≡ given locks.Types (view p) → IsBack p q
+types_back p q same only after =
+    let still : IsStill (view p) (given locks.Types (view p)) =
+    record { who = refl; history = refl; joined = refl; intent = refl; tags = refl; read = refl; write = refl; kept = refl } in
+    let lockless : HoldsNone (view q) = subst HoldsNone (sym after) (λ l. free l) in
+    record { same = same; still = subst (IsStill (view p)) (sym after) still; lockless = lockless; empty = empty_hand q lockless }
+  where
+    free : (l : lock.Lock) → holds l (given locks.Types (view p)) ≡ false
+    free locks.Types = refl
+    free (locks.Row o) = only.rows o
