@@ -1,5 +1,5 @@
 -- Words that are loaded one by one under locks, for the end of a world.
-use Rattle.std.proofs.Common.{ℕ, zero, suc, ◌≡◌, ◌≢◌, ◌<◌, ◌≤◌, ◌+◌, ◌⊎◌, true, false, ⊎_elim, inl, inr, List, [], ◌∷◌, ◌++◌, length, length-append, take, take_all, Some, None, slice_get, map, slice_index, slice_set, slice_index_or, ap, sym, subst, ◌∙◌, refl, arith}
+use Rattle.std.proofs.Common.{ℕ, zero, suc, ◌≡◌, ◌≢◌, ◌<◌, ◌≤◌, ◌+◌, ◌⊎◌, true, inl, inr, List, [], ◌∷◌, ◌++◌, length, length-append, take, take_all, Some, None, slice_get, slice_index, slice_set, slice_index_or, ap, sym, subst, ◌∙◌, refl, arith}
 use Rattle.std.proofs.lemmas.Bool.{cases_lt}
 use Rattle.std.proofs.lemmas.List.{get_or-set_same, get_or-set_other, length-set, take_more}
 use Rattle.std.proofs.lemmas.Option.{none-some, slice_get_within, get_or_from_slice_get}
@@ -12,14 +12,13 @@ use Rattle.at_view.specs.Counts.{keys, inline_values}
 use Rattle.at_core.specs.declared.lock.Lock as lock
 use Rattle.at_core.specs.declared.lock.Lock.TheVariants as locks
 use Rattle.at_core.specs.declared.world.Pass.{Pass}
-use Rattle.at_core.specs.declared.world.World as world
 use Rattle.at_core.specs.Closing.{IsStill, HasLoaded}
 use Rattle.at_core.specs.HeadPlays.{SawCell, SawKey}
 use Rattle.at_core.specs.HeadSteps.{head_loaded, inline_loaded, key_loaded, known_keys, copied_values, copied_keys_of}
 use Rattle.at_core.specs.Inline.{AreKeys, HaveGrown, IsCell}
 use Rattle.at_core.specs.Locks.{hold_of, holds, copy_at}
 use Rattle.at_core.specs.Looks.{keys_at}
-use Rattle.at_core.specs.Passes.{view, slot_at, IsSame, HasSameHand}
+use Rattle.at_core.specs.Passes.{view, IsSame, HasSameHand}
 use Rattle.at_core.proofs.HeadFrames.{grown_trans, keys_here}
 
 -- Passes that are still

@@ -1,13 +1,12 @@
 -- The ends of classes and of objects, listed one by one.
-use Rattle.std.proofs.Common.{Box, Global, ℕ, zero, suc, ◌≡◌, ◌≢◌, ◌<◌, ◌≤◌, ◌+◌, Bool, true, false, true≢false, List, [], ◌∷◌, ◌++◌, append_assoc, append-nil, length, map, take, drop, drop-cons, slice_get, Option, Some, None, is_some, IfOk, ap, sym, subst, ◌∙◌, refl, arith}
-use Rattle.std.proofs.lemmas.List.{take_more, map-append, drop_all}
+use Rattle.std.proofs.Common.{Box, Global, ℕ, zero, suc, ◌≡◌, ◌<◌, ◌+◌, false, List, [], ◌∷◌, ◌++◌, length, map, take, drop, slice_get, Some, None, ap, sym, subst, ◌∙◌, refl, arith}
+use Rattle.std.proofs.lemmas.List.{take_more, map-append}
 use Rattle.std.proofs.lemmas.Option.{get_or_from_slice_get}
 use Rattle.at_value.specs.declared.limits.Limits.{Limits}
 use Rattle.at_model.specs.declared.last.ClassEnd.{ClassEnd}
 use Rattle.at_model.specs.declared.last.ObjEnd.{ObjEnd}
-use Rattle.at_model.specs.declared.rows.ClassRow.{ClassRow}
 use Rattle.at_model.specs.declared.rows.Object.{Object}
-use Rattle.at_model.specs.Final.{class_ends, object_end, order_or_empty}
+use Rattle.at_model.specs.Final.{class_ends, object_end}
 use Rattle.at_model.specs.History.{replay}
 use Rattle.at_model.specs.World as model
 use Rattle.at_model.specs.World.{opening}

@@ -1,13 +1,13 @@
 -- Inline values that were loaded under locks are those of one map.
-use Rattle.std.proofs.Common.{ℕ, zero, suc, ◌≡◌, ◌≢◌, ◌==◌, ◌<◌, ◌≤◌, ◌⊎◌, ⊎_elim, inl, inr, Bool, true, false, true≢false, eq-eqb, ne_eqb, List, [], ◌∷◌, length, slice_index, slice_index_or, Option, Some, None, Result, Ok, Err, IfOk, All, if◌then◌else◌, ap, sym, subst, ◌∙◌, refl, arith}
+use Rattle.std.proofs.Common.{ℕ, zero, suc, ◌≡◌, ◌≢◌, ◌<◌, ◌≤◌, ◌⊎◌, ⊎_elim, inl, inr, Bool, eq-eqb, ne_eqb, List, [], ◌∷◌, length, slice_index, slice_index_or, Option, Some, None, Result, Ok, Err, IfOk, All, if◌then◌else◌, ap, sym, subst, ◌∙◌, refl, arith}
 use Rattle.std.proofs.lemmas.Bool.{cases_lt}
 use Rattle.std.proofs.lemmas.Option.{none-some, same_Some}
 use Rattle.std.proofs.Math.ListN.{get_or-eq_default}
 use mathlib.Core.Logic.{dite}
 use native.Mathlib.Decide.{ℕ_discrete}
 use Rattle.at_value.specs.declared.value.Value as value
-use Rattle.at_value.specs.Pairs.{value_at, IsRising, AreAbove}
-use Rattle.at_value.specs.Words.{IsValue, HasWord, word_of}
+use Rattle.at_value.specs.Pairs.{value_at, IsRising}
+use Rattle.at_value.specs.Words.{IsValue, word_of}
 use Rattle.at_value.proofs.Maps.{by_order, value_at-above}
 use Rattle.at_dict.specs.Inline.{AreInline, AreValuesOf, IsCell, IsWordOf, NoneIs}
 use Rattle.at_value.specs.declared.limits.Limits.{Limits}

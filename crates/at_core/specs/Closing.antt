@@ -14,8 +14,8 @@ use Rattle.at_core.specs.declared.lock.Lock as lock
 use Rattle.at_core.specs.declared.lock.Lock.TheVariants as locks
 use Rattle.at_core.specs.declared.stored.Stored.TheVariants as stored
 use Rattle.at_core.specs.declared.world.Pass.{Pass}
-use Rattle.at_core.specs.Heads.{shape_of, class_of, HasDictionary, IsWhole}
-use Rattle.at_core.specs.HeadSteps.{known_keys, copied_values, NamesRow}
+use Rattle.at_core.specs.Heads.{shape_of, IsWhole}
+use Rattle.at_core.specs.HeadSteps.{known_keys, copied_values}
 use Rattle.at_core.specs.Inline.{IsHeadOf}
 use Rattle.at_core.specs.Locks.{hold_of, holds, copy_at, HoldsNone}
 use Rattle.at_core.specs.Opened.{opening_of}

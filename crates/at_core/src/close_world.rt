@@ -98,7 +98,7 @@ fn ends_of_all(world: &World, pass: &mut Pass, alloc: Global, types: &Types) -> 
 }
 
 /// Takes the types out of their slot, under their lock.
-fn take_types(world: &World, pass: &mut Pass) -> Box<Types>
+pub(crate) fn take_types(world: &World, pass: &mut Pass) -> Box<Types>
     requires of { IsOf pass.old world.now }
     requires alone { IsAlone (view pass.old) }
     requires out { HoldsNone (view pass.old) }
@@ -114,7 +114,7 @@ fn take_types(world: &World, pass: &mut Pass) -> Box<Types>
 }
 
 /// Puts the types back and gives back their lock.
-fn give_types(world: &World, pass: &mut Pass, types: Box<Types>)
+pub(crate) fn give_types(world: &World, pass: &mut Pass, types: Box<Types>)
     requires of { IsOf pass.old world.now }
     requires types { HasTypes (now_of world.now.limits (view pass.old)) pass.old types.value }
     ensures of { IsOf pass.new world.now }

@@ -1,4 +1,4 @@
-use Rattle.std.proofs.Common.{◌≡◌, ◌∙◌, sym, subst}
+use Rattle.std.proofs.Common.{◌∙◌, sym, subst}
 use Rattle.at_value.specs.Pairs.{IsRising}
 use Rattle.at_model.specs.World.{own_of, row_of}
 use Rattle.at_core.proofs.Closing.{copied_more, copied_all}

@@ -1,4 +1,4 @@
-use Rattle.std.proofs.Common.{◌≡◌, ◌-◌, ℕ, length, take}
+use Rattle.std.proofs.Common.{◌≡◌, ◌-◌, length, take}
 use Rattle.at_model.specs.World.{own_of, row_of}
 use Rattle.at_core.proofs.close_world.own_of.Given as goal
 

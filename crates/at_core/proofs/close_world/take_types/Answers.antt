@@ -1,7 +1,7 @@
-use Rattle.std.proofs.Common.{◌≡◌, ◌<◌, ◌∙◌, ap, length, sym, arith}
+use Rattle.std.proofs.Common.{◌≡◌, ◌∙◌, ap, length, sym, arith}
 use Rattle.std.proofs.lemmas.Option.{same_Some}
 use Rattle.at_core.specs.declared.lock.Lock.TheVariants as locks
-use Rattle.at_core.specs.Passes.{view, hand}
+use Rattle.at_core.specs.Passes.{view}
 use Rattle.at_core.proofs.ClosingTypes.{has_types}
 use Rattle.at_core.proofs.HandOf.{empty_hand}
 use Rattle.at_core.proofs.close_world.take_types.Goals as goal

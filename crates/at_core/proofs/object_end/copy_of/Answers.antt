@@ -1,4 +1,4 @@
-use Rattle.std.proofs.Common.{◌≡◌, ◌∙◌, List, length, sym, subst}
+use Rattle.std.proofs.Common.{◌∙◌, sym, subst}
 use Rattle.at_value.specs.Pairs.{IsRising}
 use Rattle.at_core.proofs.Closing.{copied_more, copied_all}
 use Rattle.at_core.proofs.object_end.copy_of.Goals as goal

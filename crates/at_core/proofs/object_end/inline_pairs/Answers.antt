@@ -1,5 +1,4 @@
-use Rattle.std.proofs.Common.{◌≡◌, ◌∙◌, ap, sym, subst, slice_index}
-use Rattle.at_dict.specs.Inline.{AreValuesOf}
+use Rattle.std.proofs.Common.{◌≡◌, ◌∙◌, ap, slice_index}
 use Rattle.at_core.specs.Closing.{now_of, dictionary_of}
 use Rattle.at_core.specs.HeadSteps.{known_keys, copied_values}
 use Rattle.at_core.specs.Passes.{view}

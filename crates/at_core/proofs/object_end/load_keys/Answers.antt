@@ -1,4 +1,3 @@
-use Rattle.at_core.specs.Passes.{view}
 use Rattle.std.proofs.Common.{◌≤◌, arith}
 use Rattle.at_view.specs.Counts.{keys}
 use Rattle.at_core.proofs.Closing.{are_keys, have_grown}
