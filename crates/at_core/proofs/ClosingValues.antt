@@ -43,11 +43,11 @@ module _ {V : Type 0} where
       (λ _ _ e.
       let first : p.1 ≡ q.1 = same_Some p.1 q.1 (sym (head_value p xs) ∙ (same p.0 ∙ (ap (λ n. value_at n (q ∷ ys)) e ∙ head_value q ys))) in
       let rest : xs ≡ ys = maps_same xs ys a.1 b.1 (λ n. dite (ℕ_discrete p.0 n)
-          (λ (is : p.0 ≡ n).
-          let left : value_at n xs ≡ None = value_at-above p.0 n xs a.0 (omega arith) in
-          let right : value_at n ys ≡ None = value_at-above q.0 n ys b.0 (omega arith) in
-          left ∙ sym right)
-          (λ (ne : p.0 ≢ n). sym (other_value n p xs ne) ∙ (same n ∙ other_value n q ys (λ is. ne (e ∙ is))))) in
+      (λ (is : p.0 ≡ n).
+      let left : value_at n xs ≡ None = value_at-above p.0 n xs a.0 (omega arith) in
+      let right : value_at n ys ≡ None = value_at-above q.0 n ys b.0 (omega arith) in
+      left ∙ sym right)
+      (λ (ne : p.0 ≢ n). sym (other_value n p xs ne) ∙ (same n ∙ other_value n q ys (λ is. ne (e ∙ is))))) in
       let pair : p ≡ q = λ i. (e i, first i) in
       λ i. pair i ∷ rest i)
       (λ _ _ gt. absurd (none-some q.1 (sym (below_first q.0 p xs a gt) ∙ (same q.0 ∙ head_value q ys))))
@@ -77,9 +77,9 @@ module _ (positive : (v : value.Value) → 0 < word_of v) (one_each : (u v : val
       (λ (found : (i : ℕ) × (keys i ≡ suc n)). one_word (value_at n xs) (value_at n ys) (words found.0) (x.under found.0 n found.1) (y.under found.0 n found.1))
       (λ (none : (i : ℕ) → i < counts.keys → keys i ≢ suc n).
       let nowhere : NoneIs n keys = λ i e. ⊎_elim
-          (λ (lt : i < counts.keys). none i lt e)
-          (λ (le : counts.keys ≤ i). let z = are.past i le in omega arith)
-          (cases_lt i counts.keys) in
+      (λ (lt : i < counts.keys). none i lt e)
+      (λ (le : counts.keys ≤ i). let z = are.past i le in omega arith)
+      (cases_lt i counts.keys) in
       x.named n nowhere ∙ sym (y.named n nowhere))
       (find_key keys n counts.keys))
 

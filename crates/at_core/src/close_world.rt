@@ -62,7 +62,12 @@ fn ends_of_classes(alloc: Global, types: &Types) -> Result<Vec<ClassEnd>, AllocE
 }
 
 /// What each of so many objects has at the end.
-fn ends_of_objects(world: &World, pass: &mut Pass, alloc: Global, count: u16) -> Result<Vec<ObjEnd>, AllocError>
+fn ends_of_objects(
+    world: &World,
+    pass: &mut Pass,
+    alloc: Global,
+    count: u16,
+) -> Result<Vec<ObjEnd>, AllocError>
     requires of { IsOf pass.old world.now }
     requires alone { IsAlone (view pass.old) }
     requires only { HoldsTypesAlone (view pass.old) }
@@ -83,7 +88,12 @@ fn ends_of_objects(world: &World, pass: &mut Pass, alloc: Global, count: u16) ->
 }
 
 /// The final namespaces, by the types and by the rows of all objects.
-fn ends_of_all(world: &World, pass: &mut Pass, alloc: Global, types: &Types) -> Result<Final, AllocError>
+fn ends_of_all(
+    world: &World,
+    pass: &mut Pass,
+    alloc: Global,
+    types: &Types,
+) -> Result<Final, AllocError>
     requires of { IsOf pass.old world.now }
     requires alone { IsAlone (view pass.old) }
     requires only { HoldsTypesAlone (view pass.old) }

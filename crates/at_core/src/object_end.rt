@@ -122,7 +122,13 @@ fn other_pairs(world: &World, pass: &mut Pass, alloc: Global, r: Obj) -> Result<
 }
 
 /// The pairs of an object whose row is held, and whose head names the dictionary of a row.
-fn named_pairs(world: &World, pass: &mut Pass, alloc: Global, o: Obj, r: Obj) -> Result<Pairs, AllocError>
+fn named_pairs(
+    world: &World,
+    pass: &mut Pass,
+    alloc: Global,
+    o: Obj,
+    r: Obj,
+) -> Result<Pairs, AllocError>
     requires of { IsOf pass.old world.now }
     requires alone { IsAlone (view pass.old) }
     requires one { HoldsOneRow (view pass.old) o }
@@ -175,7 +181,11 @@ fn load_values(world: &World, pass: &mut Pass, o: Obj) -> [u64; INLINE_VALUES]
 }
 
 /// The pairs of inline values.
-fn pairs_of(alloc: Global, keys: &[u64; KEYS], words: &[u64; INLINE_VALUES]) -> Result<Pairs, AllocError>
+fn pairs_of(
+    alloc: Global,
+    keys: &[u64; KEYS],
+    words: &[u64; INLINE_VALUES],
+) -> Result<Pairs, AllocError>
     requires { AreInline (slice_index keys.now) (slice_index words.now) }
     ensures rising { IfOk result (λ pairs. IsRising pairs) }
     ensures pairs { IfOk result (λ pairs. AreValuesOf pairs (slice_index keys.now) (slice_index words.now)) }
@@ -187,7 +197,13 @@ fn pairs_of(alloc: Global, keys: &[u64; KEYS], words: &[u64; INLINE_VALUES]) -> 
 }
 
 /// The pairs of an object of this class whose row is held, and whose values stand in its inline words.
-fn inline_pairs(world: &World, pass: &mut Pass, alloc: Global, o: Obj, c: Class) -> Result<Pairs, AllocError>
+fn inline_pairs(
+    world: &World,
+    pass: &mut Pass,
+    alloc: Global,
+    o: Obj,
+    c: Class,
+) -> Result<Pairs, AllocError>
     requires of { IsOf pass.old world.now }
     requires types { holds locks.Types (view pass.old) ≡ true }
     requires row { holds (locks.Row o) (view pass.old) ≡ true }
@@ -204,7 +220,13 @@ fn inline_pairs(world: &World, pass: &mut Pass, alloc: Global, o: Obj, c: Class)
 }
 
 /// The pairs of an object whose row is held, by its head.
-fn held_pairs(world: &World, pass: &mut Pass, alloc: Global, o: Obj, head: u64) -> Result<Pairs, AllocError>
+fn held_pairs(
+    world: &World,
+    pass: &mut Pass,
+    alloc: Global,
+    o: Obj,
+    head: u64,
+) -> Result<Pairs, AllocError>
     requires of { IsOf pass.old world.now }
     requires alone { IsAlone (view pass.old) }
     requires one { HoldsOneRow (view pass.old) o }
@@ -225,7 +247,12 @@ fn held_pairs(world: &World, pass: &mut Pass, alloc: Global, o: Obj, head: u64) 
 }
 
 /// What an object that is made has at the end. The pass holds the lock of the types and no other, before and after.
-pub(crate) fn object_end(world: &World, pass: &mut Pass, alloc: Global, o: Obj) -> Result<ObjEnd, AllocError>
+pub(crate) fn object_end(
+    world: &World,
+    pass: &mut Pass,
+    alloc: Global,
+    o: Obj,
+) -> Result<ObjEnd, AllocError>
     requires of { IsOf pass.old world.now }
     requires alone { IsAlone (view pass.old) }
     requires only { HoldsTypesAlone (view pass.old) }

@@ -90,6 +90,10 @@ fn a_class_is_there_at_the_end(rt: HostRuntime) -> Result<(), OpenFault> {
     assert_eq!(rt; last.objects.len(), 0);
     assert_eq!(rt; last.classes.len(), 2);
     assert!(rt; last.classes.at(0).is_some_and(|end| is_end(end, 0, &[0])));
-    assert!(rt; last.classes.at(1).is_some_and(|end| is_end(end, 1, &[1, 0])));
+    assert!(rt;
+        last.classes
+            .at(1)
+            .is_some_and(|end| is_end(end, 1, &[1, 0]))
+    );
     Ok(())
 }

@@ -9,4 +9,4 @@ pub returns-clause-back : goal.returns-clause-back
 returns-clause-back c =
     let put = c.slot_in.ensures.same in
     types_back c.args.pass.now c.unlock.new.pass (same_longer c.args.pass.now c.slot_in.new.pass c.unlock.new.pass put.0 c.unlock.ensures.same.0) c.requires.types.only
-        (c.unlock.ensures.given ∙ ap (given locks.Types) put.2)
+    (c.unlock.ensures.given ∙ ap (given locks.Types) put.2)

@@ -12,7 +12,7 @@ pub of-requires : goal.of-requires
 of-requires c =
     let w = c.requires.0 in
     let is = copied_all (own_of (row_of c.args.types.now.classes c.args.c)) c.loop-pair.items.items c.len.result
-        (c.len.ensures ∙ c.loop-pair.items.ok.0) c.loop-pair.invariant (sym c.own_at.ensures ∙ c.in_default.is) in
+    (c.len.ensures ∙ c.loop-pair.items.ok.0) c.loop-pair.invariant (sym c.own_at.ensures ∙ c.in_default.is) in
     subst IsRising (sym is) (subst (λ (rows : _). IsRising (own_of (row_of rows c.args.c))) (sym c.requires.1.classes) (c.requires.2.owned c.args.c).rising)
 
 pub returns : goal.returns

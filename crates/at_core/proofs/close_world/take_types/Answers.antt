@@ -18,4 +18,4 @@ returns-clause-types c =
     let x = got.1 in
     let value : x ≡ c.slot_out.result = same_Some _ _ (same_Some _ _ (sym got.3 ∙ c.slot_out.ensures.value)) in
     has_types c.args.world.now.limits c.slot_out.new.pass (view c.args.pass.now) got.0 x c.in-Types.types c.requires.out (c.slot_out.ensures.same.2 ∙ got.2) c.slot_out.ensures.out got.4
-        (value ∙ c.in-Types.is)
+    (value ∙ c.in-Types.is)

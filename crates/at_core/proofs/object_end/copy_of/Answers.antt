@@ -10,7 +10,7 @@ loop-pair-preserved c = copied_more c.args.body.now.map c.loop-pair.items.items 
 pub of-requires : goal.of-requires
 of-requires c =
     let is = copied_all c.args.body.now.map c.loop-pair.items.items c.len-in-loop-pair.result
-        (c.len-in-loop-pair.ensures ∙ c.loop-pair.items.ok.0) c.loop-pair.invariant (sym c.at.ensures ∙ c.in_default.is) in
+    (c.len-in-loop-pair.ensures ∙ c.loop-pair.items.ok.0) c.loop-pair.invariant (sym c.at.ensures ∙ c.in_default.is) in
     subst IsRising (sym is) c.len.ensures.rising
 
 pub returns : goal.returns

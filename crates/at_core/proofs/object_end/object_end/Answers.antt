@@ -26,7 +26,7 @@ returns-in_err-own-clause-read c =
     let same = c.load_head-head.ensures.same in
     let load = loaded_head c.take_row.new.pass c.load_head-head.new.pass c.args.o told.0 c.load_head-head.result same.0 same.2 told.2 in
     read_row c.args.pass.now c.take_row.new.pass c.load_head-head.new.pass c.held_pairs-own.new.pass c.give_row.new.pass c.args.o c.requires.only c.take_row.ensures.beside load
-        c.held_pairs-own.ensures.read c.give_row.ensures.beside c.give_row.ensures.out
+    c.held_pairs-own.ensures.read c.give_row.ensures.beside c.give_row.ensures.out
 
 pub returns-clause-read : goal.returns-clause-read
 returns-clause-read c =
@@ -34,4 +34,4 @@ returns-clause-read c =
     let same = c.load_head-head.ensures.same in
     let load = loaded_head c.take_row.new.pass c.load_head-head.new.pass c.args.o told.0 c.load_head-head.result same.0 same.2 told.2 in
     read_row c.args.pass.now c.take_row.new.pass c.load_head-head.new.pass c.held_pairs-own.new.pass c.give_row.new.pass c.args.o c.requires.only c.take_row.ensures.beside load
-        c.held_pairs-own.ensures.read c.give_row.ensures.beside c.give_row.ensures.out
+    c.held_pairs-own.ensures.read c.give_row.ensures.beside c.give_row.ensures.out
