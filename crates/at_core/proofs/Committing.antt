@@ -79,7 +79,7 @@ unchanged_trans (locks.Row o) a b c x y = (y.0 ∙ x.0, y.1 ∙ x.1)
 abbrev pub restamped : List op.Op → Hold → Hold
 restamped history hold = record hold { since = history }
 
-held_stamped : (history : List op.Op) (o : ℕ) (rows : List RowHold) → (hold_at o (map (stamped history) rows)).held ≡ (hold_at o rows).held
+pub held_stamped : (history : List op.Op) (o : ℕ) (rows : List RowHold) → (hold_at o (map (stamped history) rows)).held ≡ (hold_at o rows).held
 held_stamped history o [] = refl
 held_stamped history o (row ∷ rows) = by_test (o == row.object) refl (held_stamped history o rows)
   where

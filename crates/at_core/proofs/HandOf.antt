@@ -1,8 +1,10 @@
 -- A pass that holds no lock has nothing in hand.
-use Rattle.std.proofs.Common.{◌≡◌, ℕ, zero, suc, ◌<◌, Bool, true, false, true≢false, ◌==◌, ◌||◌, List, [], ◌∷◌, map, eq-eqb, eqb-true, ne_eqb, refl, sym, ap, ◌∙◌, arith}
+use Rattle.std.proofs.Common.{◌≡◌, ◌≢◌, ◌⊎◌, inl, inr, ℕ, zero, suc, ◌<◌, Bool, true, false, true≢false, ◌==◌, ◌||◌, List, [], ◌∷◌, map, eq-eqb, eqb-true, ne_eqb, refl, sym, ap, ◌∙◌, arith}
 use Rattle.std.specs.Prelude.{Some, is_some, nat_lt, slice_get, if◌then◌else◌}
 use Rattle.std.specs.List.{list_any}
 use Rattle.std.proofs.lemmas.Bool.Decides.{nat_tests}
+use mathlib.Core.Logic.{dite}
+use native.Mathlib.Decide.{ℕ_discrete}
 use Rattle.at_value.specs.Widths.{objects}
 use Rattle.at_types.specs.Tags.{times}
 use Rattle.at_view.specs.declared.view.View.{View}
@@ -14,6 +16,7 @@ use Rattle.at_core.specs.Passes.{view, hand}
 use Rattle.at_core.specs.Reads.{slot_number, in_hand}
 use Rattle.at_core.specs.Rule.{IsLock, weight}
 use Rattle.at_core.proofs.Counts.{weight_same, times_cons}
+use Rattle.at_core.proofs.HandLemmas.{not_among}
 
 -- the lock of a slot of the table
 pub record HasLock (k : ℕ) : Type 0 where
@@ -58,3 +61,14 @@ module _ {A : Type 0} where
       let w = weight_same k in
       let here : weight (s.0 == k) ≡ weight (k == k) = ap (λ (n : ℕ). weight (n == k)) (sym same) in
       (omega arith, ap (λ (b : Bool). is_some (if b then Some s.1 else in_hand k ss)) (eq-eqb k s.0 same))
+
+-- what a pass has in hand where it holds no row but one: the slot of the types, and that of this row
+pub held_slots : (p : Pass) (o : ℕ) → ((r : ℕ) → r ≢ o → holds (locks.Row r) (view p) ≡ false) → (k : ℕ) → 0 < times k (map slot_number (hand p)) → (k ≡ 0) ⊎ (k ≡ suc o)
+held_slots p o none zero there = inl refl
+held_slots p o none (suc r) there = dite (ℕ_discrete r o)
+    (λ (e : r ≡ o). inr (ap suc e))
+    (λ (ne : r ≢ o).
+    let is : IsLock (locks.Row r) = (let yes : nat_lt r objects ≡ true = (let lt = p.within (suc r) there in grind (arith, nat_tests, lt)) in yes) in
+    let out : is_some (in_hand (suc r) (hand p)) ≡ false = p.right (locks.Row r) is ∙ none r ne in
+    let times_none = not_among (suc r) (hand p) out in
+    absurd (omega arith))

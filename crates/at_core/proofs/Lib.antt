@@ -43,3 +43,7 @@ pub mod Written
 pub mod HeldStays
 pub mod Trials
 pub mod Backing
+pub mod Closing
+pub mod ClosingValues
+pub mod ClosingRows
+pub mod ClosingTypes

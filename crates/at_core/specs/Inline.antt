@@ -1,10 +1,8 @@
 -- What the head of an object, the keys of its class and its inline values say of the object.
-use Rattle.std.specs.Prelude.{ℕ, suc, ◌≡◌, ◌≢◌, ◌≤◌, ◌⊎◌, [], Option, Some, None, slice_get, slice_index_or}
-use Rattle.at_value.specs.declared.value.Value as value
-use Rattle.at_value.specs.Pairs.{value_at}
+use Rattle.std.specs.Prelude.{ℕ, suc, ◌≡◌, ◌≢◌, ◌≤◌, [], Some, None, slice_get, slice_index_or}
 use Rattle.at_value.specs.Widths.{names}
-use Rattle.at_value.specs.Words.{HasWord}
-use Rattle.at_model.specs.World.{World, Map}
+pub use Rattle.at_dict.specs.Inline.{NoneIs, IsCell, IsWordOf, IsWordUnder, AreValuesOf}
+use Rattle.at_model.specs.World.{World}
 use Rattle.at_view.specs.Counts as counts
 use Rattle.at_core.specs.Heads.{class_of, shape_of, unmade, inline}
 
@@ -21,31 +19,6 @@ pub record AreKeys (keys : ℕ → ℕ) : Type 0 where
 -- keys that are used stay
 abbrev pub HaveGrown : (ℕ → ℕ) → (ℕ → ℕ) → Type 0
 HaveGrown keys more = (i : ℕ) → keys i ≢ 0 → more i ≡ keys i
-
--- none of the keys is that of the name
-abbrev pub NoneIs : ℕ → (ℕ → ℕ) → Type 0
-NoneIs n keys = (i : ℕ) → keys i ≢ suc n
-
--- Inline values
-
--- an inline word is 0, or the word of a value
-abbrev pub IsCell : ℕ → Type 0
-IsCell word = (word ≡ 0) ⊎ ((v : value.Value) × HasWord v word)
-
-abbrev pub IsWordOf : Option value.Value → ℕ → Type 0
-IsWordOf None word = word ≡ 0
-IsWordOf (Some v) word = HasWord v word
-
--- it is the word of the name's value, and 0 where the name has none
-abbrev pub IsWordUnder : ℕ → Map → ℕ → Type 0
-IsWordUnder n pairs word = IsWordOf (value_at n pairs) word
-
--- The inline values are those of the map: under a key stands its name's value, each name that has a value has a key, and
--- past the keys each word is 0.
-pub record AreValuesOf (pairs : Map) (keys values : ℕ → ℕ) : Type 0 where
-  pub under : (i n : ℕ) → keys i ≡ suc n → IsWordUnder n pairs (values i)
-  pub named : (n : ℕ) → NoneIs n keys → value_at n pairs ≡ None
-  pub past : (i : ℕ) → keys i ≡ 0 → values i ≡ 0
 
 -- Heads
 

@@ -14,6 +14,7 @@ pub mod PlacePlays
 pub mod HeadPlays
 pub mod Runs
 pub mod Opened
+pub mod Closing
 pub mod Passes
 pub mod SomeRun
 pub mod Trials

@@ -2,14 +2,17 @@
 //! rule.
 #![tactic(auto)]
 
+mod close_world;
 pub mod family;
 mod hand;
+mod head_word;
 pub mod heads;
 pub mod keys;
 pub mod laws;
 pub mod lock;
 pub mod locking;
 pub mod note;
+mod object_end;
 mod open_world;
 mod pass;
 pub mod places;
@@ -20,6 +23,7 @@ mod tests;
 mod waiting;
 pub mod world;
 
+pub use close_world::Unclosed;
 pub use lock::Lock;
 pub use note::Note;
 pub use open_world::OpenFault;

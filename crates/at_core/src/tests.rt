@@ -13,6 +13,8 @@ use crate::world::MOST_HELD;
 use crate::{Lock, Note, OpenFault, Pass, Stored, World, laws};
 use at_value::{Class, Limits, Name, Obj};
 
+mod closing;
+
 #[test]
 fn laws_hold() {
     laws::every_run();
@@ -108,7 +110,7 @@ fn a_row_goes_back(rt: HostRuntime) -> Result<(), OpenFault> {
 }
 
 /// Word 0 of the operation that makes class 1 with the one base `object`; its other words are 0.
-const CLASS_ONE: u64 = 16_777_473;
+pub(crate) const CLASS_ONE: u64 = 16_777_473;
 
 /// The first pass takes the lock of the types and makes a class; it gives the place before, or none where it found the lock held.
 fn make_class(world: &World, pass: &mut Pass) -> Option<u64>

@@ -1,9 +1,10 @@
 //! A dictionary: a map from names to values with spare places.
-ghost use Rattle.std.specs.Prelude.{◌≡◌, ◌<◌, ◌≤◌, ◌↔◌, ◌⊎◌, [], IsTrue, IsOk, IsSome, length, OnOk, OnErr, slice_get};
+ghost use Rattle.std.specs.Prelude.{◌≡◌, ◌<◌, ◌≤◌, ◌+◌, ◌↔◌, ◌⊎◌, [], IsTrue, IsOk, IsSome, length, OnOk, OnErr, slice_get, slice_index};
 ghost use Rattle.at_value.specs.Pairs.{IsRising, value_at, with_value, without};
 ghost use Rattle.at_dict.specs.Dictionary.{spare_with, spare_without};
+ghost use Rattle.at_dict.specs.Inline.{inline_most, AreInline, AreValuesOf};
 
-use at_value::{Name, Value, sorted};
+use at_value::{Name, Value, from_word, sorted};
 use std::alloc::{AllocError, Global};
 use std::marker::Model;
 
@@ -27,6 +28,9 @@ impl Model for Body {
 }
 
 impl Body {
+    /// How many inline values there are at most.
+    pub const INLINE: usize = 8;
+
     /// A dictionary without names and without spare places. It takes no memory.
     pub fn new(alloc: Global) -> Body
         ensures { result ≡ record { map = []; spare = 0 } }
@@ -88,6 +92,23 @@ impl Body {
         ensures spare { self.new.spare ≡ spare_without n self.old }
     {
         sorted::cut(n, &mut self.items)
+    }
+
+    /// Fills an empty dictionary with inline values: under each key, which is the number of a name and 1, the value of
+    /// the word beside it, if that isn't 0. Each pair takes one spare place. It asks that each key is 0 or that of a name,
+    /// that no name has two, and that each word is 0 or that of a value, and 0 where its key is 0.
+    pub fn from_inline(&mut self, keys: &[u64; Body::INLINE], words: &[u64; Body::INLINE])
+        requires empty { self.old.map ≡ [] }
+        requires room { inline_most ≤ self.old.spare }
+        requires inline { AreInline (slice_index keys.now) (slice_index words.now) }
+        ensures map { AreValuesOf self.new.map (slice_index keys.now) (slice_index words.now) }
+        ensures spare { self.new.spare + length self.new.map ≡ self.old.spare }
+    {
+        for i in 0..Body::INLINE {
+            if let Some(v) = from_word(words[i]) {
+                self.put(Name::new((keys[i] - 1) as u16).unwrap(), v);
+            }
+        }
     }
 
     /// The pair at this index by rising name number, and none exactly from the length on.

@@ -1,6 +1,6 @@
 //! A dictionary of many names, and that it may cross threads.
 use crate::Body;
-use at_value::{Name, Value};
+use at_value::{Name, Value, to_word};
 use std::alloc::AllocError;
 
 const NAMES: u16 = 200;
@@ -50,6 +50,34 @@ fn a_spare_place_for_each_new_name(rt: HostRuntime) -> Result<(), AllocError> {
     body.put(Name::init(), Value::Nothing);
     assert_eq!(rt; body.get(Name::init()), Some(Value::Nothing));
     assert_eq!(rt; body.at(0), Some((Name::getattr(), Value::Int(3))));
+    Ok(())
+}
+
+/// Two keys whose names don't rise, and their words; the other words are 0.
+#[test]
+fn inline_values_come_by_rising_name(rt: HostRuntime) -> Result<(), AllocError> {
+    let mut body = Body::new(rt.alloc());
+    body.reserve(8)?;
+    let words = [
+        to_word(Value::Int(7)),
+        to_word(Value::Nothing),
+        0,
+        0,
+        0,
+        0,
+        0,
+        0,
+    ];
+    body.from_inline(&[201, 101, 0, 0, 0, 0, 0, 0], &words);
+    assert_eq!(rt;
+        body.at(0),
+        Name::new(100).map(|name| (name, Value::Nothing))
+    );
+    assert_eq!(rt;
+        body.at(1),
+        Name::new(200).map(|name| (name, Value::Int(7)))
+    );
+    assert_eq!(rt; body.at(2), None);
     Ok(())
 }
 

@@ -43,5 +43,5 @@ invariant_of-pass c =
 pub returns-clause-same : goal.returns-clause-same
 returns-clause-same c =
     let small : c.args.o < objects = omega arith in
-    same_after c.args.pass.now _ c.args.world.now (inline_stored c.args.pass.now.seat.me.0 c.args.o c.args.i c.args.word) c.store.ensures.0 c.store.ensures.1 refl
+    same_after c.args.pass.now _ c.args.world.now (inline_stored c.args.pass.now.seat.me.0 c.args.o c.args.i c.args.word) c.store.ensures.0 c.store.ensures.1 refl refl
     (c.store.ensures.2 c.args.o c.args.i small c.requires.may.index c.inline_value.ensures) refl c.requires.of

@@ -46,5 +46,5 @@ pub returns-clause-same : goal.returns-clause-same
 returns-clause-same c =
     let f = c.from-word.ensures in
     let e = c.number.ensures.same in
-    same_after c.args.pass.now _ c.args.world.now (key_appended c.args.pass.now.seat.me.0 c.args.c c.args.i c.args.n) c.store.ensures.0 c.store.ensures.1 refl
+    same_after c.args.pass.now _ c.args.world.now (key_appended c.args.pass.now.seat.me.0 c.args.c c.args.i c.args.n) c.store.ensures.0 c.store.ensures.1 refl refl
     (c.store.ensures.2 c.args.c c.args.i c.args.n c.requires.may.class c.requires.may.index c.key.ensures (omega (arith, f, e))) refl c.requires.of
