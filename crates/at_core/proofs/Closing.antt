@@ -20,6 +20,7 @@ use Rattle.at_core.specs.Locks.{hold_of, holds, copy_at}
 use Rattle.at_core.specs.Looks.{keys_at}
 use Rattle.at_core.specs.Passes.{view, IsSame, HasSameHand}
 use Rattle.at_core.proofs.HeadFrames.{grown_trans, keys_here}
+use Rattle.at_core.proofs.PassSteps.{same_pass, same_then}
 
 -- Passes that are still
 
@@ -38,12 +39,6 @@ still_longer u v w a b = record {
   kept = b.kept ∙ a.kept;
 }
 
-pub same_longer : (p q r : Pass) → IsSame p q → IsSame q r → IsSame p r
-same_longer p q r a b = record { table = b.table ∙ a.table; seat = b.seat ∙ a.seat; number = b.number ∙ a.number }
-
-pub same_pass : (p : Pass) → IsSame p p
-same_pass p = record { table = refl; seat = refl; number = refl }
-
 -- Loads
 
 pub loaded_none : (p : Pass) → HasLoaded p p
@@ -51,7 +46,7 @@ loaded_none p = record { same = same_pass p; slots = λ k. refl; still = still_s
 
 pub loaded_longer : (p q r : Pass) → HasLoaded p q → HasLoaded q r → HasLoaded p r
 loaded_longer p q r a b = record {
-  same = same_longer p q r a.same b.same;
+  same = same_then p q r a.same b.same;
   slots = λ k. b.slots k ∙ a.slots k;
   still = still_longer (view p) (view q) (view r) a.still b.still;
   types = b.types ∙ a.types;

@@ -21,7 +21,8 @@ use Rattle.at_core.specs.Plays.{RowsAreNamed}
 use Rattle.at_core.specs.Reads.{slot_number}
 use Rattle.at_core.specs.Rule.{BodyAgrees}
 use Rattle.at_core.specs.Steps.{copied_heads, HoldsTypesAlone}
-use Rattle.at_core.proofs.Closing.{same_longer, still_longer, held_loaded, copy_loaded}
+use Rattle.at_core.proofs.PassSteps.{same_then}
+use Rattle.at_core.proofs.Closing.{still_longer, held_loaded, copy_loaded}
 use Rattle.at_core.proofs.Counts.{times_cons, weight_same}
 use Rattle.at_core.proofs.HandOf.{held_slots}
 
@@ -84,7 +85,7 @@ read_beside p q r a before after = record {
 
 pub read_longer : (p q r : Pass) → HasRead p q → HasRead q r → HasRead p r
 read_longer p q r a b = record {
-  same = same_longer p q r a.same b.same;
+  same = same_then p q r a.same b.same;
   still = still_longer (view p) (view q) (view r) a.still b.still;
   types = b.types ∙ a.types;
   held = λ l. b.held l ∙ a.held l;
@@ -143,7 +144,7 @@ one_row p m n o only a b = record {
 
 pub read_row : (p m n k q : Pass) (o : ℕ) → HoldsTypesAlone (view p) → IsBeside p m o → HasLoaded m n → HasRead n k → IsBeside k q o → holds (locks.Row o) (view q) ≡ false → HasRead p q
 read_row p m n k q o only a b c d out = record {
-  same = same_longer p m q a.same (same_longer m n q b.same (same_longer n k q c.same d.same));
+  same = same_then p m q a.same (same_then m n q b.same (same_then n k q c.same d.same));
   still = still_longer (view p) (view m) (view q) a.still (still_longer (view m) (view n) (view q) b.still (still_longer (view n) (view k) (view q) c.still d.still));
   types = d.types ∙ (c.types ∙ (b.types ∙ a.types));
   held = held;
