@@ -1,5 +1,5 @@
 //! A world is closed by its only pass, which then knows all that was written.
-ghost use Rattle.std.specs.Prelude.{◌≡◌, ◌≤◌, ℕ, IfOk, IfErr, length, map};
+ghost use Rattle.std.specs.Prelude.{◌≡◌, IfOk, IfErr, length, map};
 ghost use Rattle.at_types.specs.Types.{StandsFor};
 ghost use Rattle.at_model.specs.Final.{final_of, class_ends, object_end};
 ghost use Rattle.at_model.specs.World as world;
@@ -74,8 +74,8 @@ fn ends_of_objects(
     requires all { count ≡ length (now_of world.now.limits (view pass.old)).objects }
     ensures of { IsOf pass.new world.now }
     ensures read { HasRead pass.old pass.new }
-    ensures ends { IfOk result (λ ends. ends.items
-        ≡ map (object_end (now_of world.now.limits (view pass.old))) (now_of world.now.limits (view pass.old)).objects) }
+    ensures ends { IfOk result (λ ends. ends.items ≡ map (object_end (now_of world.now.limits (view pass.old)))
+        (now_of world.now.limits (view pass.old)).objects) }
 {
     let mut ends = Vec::new(alloc);
     for i in 0..count {
@@ -150,9 +150,10 @@ fn last_of(world: &World, pass: &mut Pass, alloc: Global) -> Result<Final, Alloc
 }
 
 impl World {
-    /// Closes the world and gives the final namespaces: those after all writes. It asks that the pass is the first one, has
-    /// no child and holds no lock; so each other pass was taken in, and what this one has seen is all that was written.
-    /// Where memory runs out, the world and the pass are handed back as they were.
+    /// Closes the world and gives the final namespaces: those after all writes. It asks that the pass is the first one,
+    /// has no child and holds no lock; so each other pass was taken in, and what this one has seen is all that was
+    /// written. Where memory runs out, the world and the pass are handed back; the pass has no lock and nothing in hand,
+    /// and has seen and written nothing more.
     pub fn close(self, pass: Pass) -> Result<Final, Unclosed>
         requires of { IsOf pass self }
         requires alone { IsAlone (view pass) }

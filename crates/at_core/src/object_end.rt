@@ -1,20 +1,18 @@
 //! What an object has at the end: its class and its names, as the only pass of the world reads them under locks.
-ghost use Rattle.std.specs.Prelude.{◌≡◌, ◌≢◌, ◌<◌, ◌≤◌, ℕ, List, IfOk, Some, length, slice_index, slice_get, false, true};
+ghost use Rattle.std.specs.Prelude.{◌≡◌, ◌<◌, ℕ, IfOk, Some, length, slice_index, false, true};
 ghost use Rattle.at_value.specs.Pairs.{IsRising};
-ghost use Rattle.at_value.specs.Widths.{classes};
-ghost use Rattle.at_model.specs.World.{Map, IsWellFormed};
 ghost use Rattle.at_dict.specs.Inline.{AreInline, AreValuesOf, IsCell};
 ghost use Rattle.at_view.specs.Counts.{keys, inline_values};
 ghost use Rattle.at_core.specs.declared.lock.Lock.TheVariants as locks;
 ghost use Rattle.at_core.specs.declared.stored.Stored as stored;
-ghost use Rattle.at_core.specs.Closing.{now_of, dictionary_of, HasLoaded, HasRead, HasRow, HeadSays, HoldsOneRow, IsBeside, IsEndOf};
-ghost use Rattle.at_core.specs.Heads.{class_of, inline, shape_of, HasDictionary, IsHead};
-ghost use Rattle.at_core.specs.HeadSteps.{known_keys, copied_values, copied_keys_of, NamesRow};
+ghost use Rattle.at_core.specs.Closing.{now_of, dictionary_of, HasLoaded, HasRead, HasRow, HeadSays, HoldsOneRow};
+ghost use Rattle.at_core.specs.Closing.{IsBeside, IsEndOf};
+ghost use Rattle.at_core.specs.Heads.{shape_of, HasDictionary, IsHead};
+ghost use Rattle.at_core.specs.HeadSteps.{known_keys, copied_values, NamesRow};
 ghost use Rattle.at_core.specs.Inline.{AreKeys, HaveGrown};
 ghost use Rattle.at_core.specs.Locks.{holds};
-ghost use Rattle.at_core.specs.Looks.{keys_at};
 ghost use Rattle.at_core.specs.Opened.{opening_of};
-ghost use Rattle.at_core.specs.Passes.{view, hand, slot_at, HasSameHand, IsElsewhereSame, IsOf, IsSame};
+ghost use Rattle.at_core.specs.Passes.{view, hand, slot_at, IsElsewhereSame, IsOf, IsSame};
 ghost use Rattle.at_core.specs.Plays.{IsAlone, RowsAreNamed, Took};
 ghost use Rattle.at_core.specs.Steps.{copied_heads, taken, HoldsTypesAlone, Moment};
 
@@ -237,7 +235,8 @@ fn held_pairs(
     ensures of { IsOf pass.new world.now }
     ensures read { HasRead pass.old pass.new }
     ensures row { HasRow (now_of world.now.limits (view pass.new)) pass.new o }
-    ensures pairs { IfOk result (λ pairs. pairs ≡ dictionary_of (now_of world.now.limits (view pass.old)) (shape_of head).row) }
+    ensures pairs { IfOk result (λ pairs.
+        pairs ≡ dictionary_of (now_of world.now.limits (view pass.old)) (shape_of head).row) }
 {
     if layout_in(head) == INLINE {
         inline_pairs(world, pass, alloc, o, class_in(head))

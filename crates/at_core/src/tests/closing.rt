@@ -1,4 +1,5 @@
-//! Worlds are closed: a fresh one, and one with a class of its own. Where memory runs out, what is handed back is closed again.
+//! Worlds are closed: a fresh one, and one with a class of its own. Where memory runs out, what is handed back is closed
+//! again.
 ghost use Rattle.std.specs.Prelude.{◌≡◌, ◌<◌, [], ◌∷◌, IfOk};
 ghost use Rattle.at_model.specs.Final.{final_of};
 ghost use Rattle.at_view.specs.Views.{first_view};
