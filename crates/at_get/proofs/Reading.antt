@@ -96,7 +96,7 @@ module _ (o c n : ℕ) (v w : View) where
       let stay : All Stay (map (with_keys c loads) v.looks) = subst (All Stay) (ap (λ (u : View). u.looks) scan.after ∙ looks_loaded c loads v) saw.used in
       let each : HeadLook → HeadLook = λ look. with_cell o i keys_are word (with_keys c loads look) in
       subst (λ (u : View). Yields o c n read v u) (sym after) (record {
-        only = then_loaded v scanned (inline_loaded scanned o i keys_are word) (only_keys c 0 loads v) (one_loaded scanned (inline_loaded scanned o i keys_are word) _ refl refl (prefix_self scanned.history.seen) refl refl);
+        only = then_loaded v scanned (inline_loaded scanned o i keys_are word) (only_keys c 0 loads v) (one_loaded scanned (inline_loaded scanned o i keys_are word) _ refl refl (refl, refl, refl) (prefix_self scanned.history.seen) refl refl);
         history = history_loaded c 0 loads v;
         each = each;
         looks = ap (map (with_cell o i keys_are word)) (looks_loaded c loads v) ∙ map-map (with_cell o i keys_are word) (with_keys c loads) v.looks;

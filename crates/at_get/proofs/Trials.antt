@@ -69,7 +69,7 @@ module _ (u : View) (h : IsAt made (words_of new_object) 1 (eight 0) u) (o c : �
   at_close y at closed =
       let word : ℕ = copied_heads u 0 in
       let same : head_closed (head_loaded u o at (copied_heads u o)) o (word_of (closed_with u o c layouts.Inline o)) ≡ head_closed (head_loaded u 0 at word) 0 (head_of inline 0) =
-          λ t. head_closed (head_loaded u (none t) at (copied_heads u (none t))) (none t) (word_is t) in
+      λ t. head_closed (head_loaded u (none t) at (copied_heads u (none t))) (none t) (word_is t) in
       subst HasObject (sym (closed ∙ same)) (at_closed made (words_of new_object) 1 (eight 0) (head_loaded u 0 at word) (at_head_loaded made (words_of new_object) 1 (eight 0) u h 0 at word) (head_of inline 0))
 
 -- then it was made in what the pass has seen

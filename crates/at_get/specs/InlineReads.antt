@@ -21,10 +21,14 @@ use Rattle.at_core.specs.Inline.{AreKeys}
 use Rattle.at_core.specs.Looks.{born_with}
 use Rattle.at_get.specs.declared.inline.InlineValue.{InlineValue}
 
--- The pass only loaded: who it is and its own writes are as they were, it has seen no less, and its trace has more loads.
+-- The pass only loaded: who it is, its own writes, its locks and the copies that it has by them are as they were, it has seen no less,
+-- and its trace has more loads.
 pub record OnlyLoads (v w : View) : Type 0 where
   pub who : w.who ≡ v.who
   pub own : w.history.own ≡ v.history.own
+  pub types : w.types ≡ v.types
+  pub holds : w.holds ≡ v.holds
+  pub rows : w.rows ≡ v.rows
   pub later : IsPrefix v.history.seen w.history.seen
   pub marks : List Mark
   pub trace : w.trace ≡ v.trace ++ marks

@@ -36,7 +36,7 @@ fn load_value(world: &World, pass: &mut Pass, o: Obj, c: Class, n: Name) -> Opti
     }
 }
 
-/// Reads what a name is in the dictionary of an object without a lock, in at most 20 loads, and waits for nobody. The object was
+/// Reads what a name is in the dictionary of an object without a lock, in at most 12 loads, and waits for nobody. The object was
 /// made in what the pass has seen. A read misses where the object was being written (`Odd`), has its values in a dictionary
 /// (`Dict`), or was written meanwhile (`Moved`), with the words of the head that were loaded.
 pub fn inline_value(world: &World, pass: &mut Pass, o: Obj, n: Name) -> Result<InlineValue, Miss>

@@ -1,11 +1,9 @@
-use Rattle.std.proofs.Common.{◌≡◌, ℕ, List, [], ◌∷◌, sym, ap, ◌∙◌, subst}
+use Rattle.std.proofs.Common.{◌≡◌, ℕ, [], ◌∷◌, ap, ◌∙◌}
 use Rattle.at_value.specs.declared.operation.Op as op
 use Rattle.at_value.specs.declared.operation.Op.TheVariants as ops
 use Rattle.at_value.specs.Packing.{words_of}
 use Rattle.at_view.specs.declared.mark.StepKind.TheVariants as kinds
-use Rattle.at_view.specs.declared.view.View.{View}
 use Rattle.at_core.specs.Passes.{view}
-use Rattle.at_core.specs.PlaceSteps.{place_loaded}
 use Rattle.at_core.specs.SomeRun.{new_class}
 use Rattle.at_core.specs.Trials.{eight}
 use Rattle.at_core.proofs.Trials.{done, may_make_class}

@@ -1,12 +1,10 @@
 use Rattle.std.proofs.Common.{◌≡◌, ℕ, [], refl, sym, ap, ◌∙◌, subst}
-use Rattle.std.specs.Prelude.{Some}
 use Rattle.std.proofs.lemmas.Bool.{eqb-true}
 use Rattle.at_model.specs.World.{opening}
 use Rattle.at_view.specs.declared.view.View.{View}
 use Rattle.at_view.specs.Views.{first_view}
 use Rattle.at_core.specs.declared.lock.Lock.TheVariants as locks
-use Rattle.at_core.specs.declared.stored.Stored.{Stored}
-use Rattle.at_core.specs.Passes.{view, slot_at}
+use Rattle.at_core.specs.Passes.{view}
 use Rattle.at_core.specs.Plays.{IsAlone, Took}
 use Rattle.at_core.specs.Steps.{taken}
 use Rattle.at_core.proofs.Trials.{begun}
