@@ -89,9 +89,16 @@ only_commit p (suc (suc (suc (suc i))), m, at, t) = absurd (cc (at))
 
 pub class_backed : ClassIsBacked
 class_backed = (
-  ([], class_marks, [], refl, (
-    (2, mark kinds.Commit place (Some 0) (Some 1), refl, record { is = inl refl; at = refl; before = 0; finds = refl; leaves = refl; next = refl }),
-    (0, mark kinds.LockTake type_lock (Some 0) (Some 1), refl, ((refl, refl), refl)),
-  ), tt),
+  (
+    [],
+    class_marks,
+    [],
+    refl,
+    (
+      (2, mark kinds.Commit place (Some 0) (Some 1), refl, record { is = inl refl; at = refl; before = 0; finds = refl; leaves = refl; next = refl }),
+      (0, mark kinds.LockTake type_lock (Some 0) (Some 1), refl, ((refl, refl), refl)),
+    ),
+    tt,
+  ),
   λ p other b. let (before, part, after, is, backs, rest) = b in other (only_commit p (has_within class_marks before part after is backs.0)),
 )

@@ -1,29 +1,28 @@
 -- The calls that begin and end sections, of the steps that they make.
-use Rattle.std.proofs.Common.{◌≡◌, ℕ, suc, Bool, true, false, List, [], ◌∷◌, ◌++◌, map, length, Option, refl, sym, ap, ◌∙◌, subst}
-use Rattle.std.specs.Prelude.{Some, None, nat_lt, ◌==◌, ◌||◌, if◌then◌else◌}
+use Rattle.std.proofs.Common.{◌≡◌, ℕ, Bool, true, false, List, [], ◌∷◌, ◌++◌, map, length, Option, refl, sym, ap, ◌∙◌, subst}
+use Rattle.std.specs.Prelude.{Some, None, nat_lt, ◌==◌, if◌then◌else◌}
 use Rattle.std.specs.List.{list_all}
 use Rattle.at_model.specs.World.{World}
-use Rattle.at_value.specs.declared.limits.Limits.{Limits}
 use Rattle.at_value.specs.declared.operation.Op as op
 use Rattle.at_view.specs.declared.view.View.{View}
 use Rattle.at_core.specs.declared.lock.Lock as lock
 use Rattle.at_core.specs.declared.lock.Lock.TheVariants as locks
 use Rattle.at_core.specs.declared.note.Note.{Note}
 use Rattle.at_core.specs.declared.world.Pass.{Pass}
-use Rattle.at_core.specs.Locks.{holds, AreKeptAt, AreKept}
+use Rattle.at_core.specs.Locks.{AreKeptAt, AreKept}
 use Rattle.at_core.specs.Opened.{opening_of}
 use Rattle.at_core.specs.Passes.{notes, view, IsSame, IsNoted}
 use Rattle.at_core.specs.PlacePlays.{Saw}
 use Rattle.at_core.specs.PlaceSteps.{place_loaded}
 use Rattle.at_section.specs.declared.ended.How as how
 use Rattle.at_section.specs.declared.ended.Ended.{Ended}
-use Rattle.at_section.specs.Calls.{IsSamePass, IsLeft, Adds, Moves, IsLoaded, Begins, Finishes, Ends, given_of, IsSuspended, last_of}
+use Rattle.at_section.specs.Calls.{IsSamePass, IsLeft, Adds, Moves, IsLoaded, Begins, Finishes, given_of, IsSuspended, last_of}
 use Rattle.at_section.specs.Deeds.{word_of, names, held, Every}
-use Rattle.at_section.specs.Scores.{Start, start_of}
-use Rattle.at_section.specs.Sections.{types_lock, row_lock, rows, two_rows, in_order, locks_of, named_locks, after_load, Stands, Sections, Pairs}
+use Rattle.at_section.specs.Scores.{start_of}
+use Rattle.at_section.specs.Sections.{rows, in_order, locks_of, named_locks, after_load, Stands, Sections, Pairs}
 use Rattle.at_section.specs.Surfaces.{NamesNoTypes, AreHeld}
-use Rattle.at_section.proofs.Ending.{begun_stands, each_entered, unblocked, ends_of, other_word, rows_differ, names_types, same_types}
-use Rattle.at_section.proofs.Settling.{every_last, last_one, load_leaves}
+use Rattle.at_section.proofs.Ending.{begun_stands, each_entered, unblocked, ends_of, rows_differ, names_types, same_types}
+use Rattle.at_section.proofs.Settling.{every_last, load_leaves}
 use Rattle.at_section.proofs.Standing.{held_loaded, pairs_more, pairs_last}
 use Rattle.at_section.proofs.Steps.{pass_of, pass_noted, pass_then, left_then, adds_then, moves_then, moves_loaded}
 

@@ -1,6 +1,6 @@
 -- Where sections begin and end.
-use Rattle.std.proofs.Common.{◌≡◌, ◌≢◌, ⊎_elim, ℕ, suc, ◌<◌, ◌≤◌, Bool, true, false, true≢false, ◌==◌, ◌||◌, List, [], ◌∷◌, ◌++◌, map, length, Option, refl, sym, ap, ◌∙◌, subst, arith, append_assoc, append-nil, length-append}
-use Rattle.std.specs.Prelude.{Some, None, Contains, nat_lt, if◌then◌else◌}
+use Rattle.std.proofs.Common.{◌≡◌, ℕ, ◌≤◌, Bool, true, false, true≢false, ◌==◌, ◌||◌, List, [], ◌∷◌, ◌++◌, length, Option, refl, sym, ap, ◌∙◌, subst, arith, append-nil}
+use Rattle.std.specs.Prelude.{Some, None}
 use Rattle.std.specs.List.{list_all}
 use Rattle.std.proofs.lemmas.Bool.{and_parts}
 use Rattle.std.proofs.lemmas.List.{length-map}
@@ -15,10 +15,8 @@ use Rattle.at_view.specs.Words as words
 use Rattle.at_core.specs.declared.lock.Lock as lock
 use Rattle.at_core.specs.declared.lock.Lock.TheVariants as locks
 use Rattle.at_core.specs.declared.note.Note.{Note}
-use Rattle.at_core.specs.declared.world.Pass.{Pass}
 use Rattle.at_core.specs.Locks.{hold_of, holds, AreKeptAt, AvoidsRow}
 use Rattle.at_core.specs.Opened.{opening_of}
-use Rattle.at_core.specs.Passes.{notes, view}
 use Rattle.at_core.specs.PlacePlays.{Saw}
 use Rattle.at_core.specs.PlaceSteps.{place_loaded}
 use Rattle.at_core.specs.Steps.{mark}
@@ -27,9 +25,9 @@ use Rattle.at_section.specs.declared.ended.Ended.{Ended}
 use Rattle.at_section.specs.declared.ended.How as how
 use Rattle.at_section.specs.declared.ended.How.TheVariants as hows
 use Rattle.at_section.specs.Calls.{IsLeft, AvoidsRows, Ends, given_of, IsSuspended}
-use Rattle.at_section.specs.Deeds.{word_of, names, Held, held, is_blocked, Every}
-use Rattle.at_section.specs.Scores.{Start, start_of, opening, score, capped}
-use Rattle.at_section.specs.Sections.{types_lock, row_lock, locks_of, named_locks, IsHeldSince, Stands, Pairs}
+use Rattle.at_section.specs.Deeds.{word_of, names, held, is_blocked, Every}
+use Rattle.at_section.specs.Scores.{Start, start_of, opening, capped}
+use Rattle.at_section.specs.Sections.{types_lock, row_lock, locks_of, named_locks, IsHeldSince, Stands}
 use Rattle.at_section.specs.Surfaces.{NamesNoTypes}
 use Rattle.at_section.proofs.Scores.{kept_gives_none}
 use Rattle.at_section.proofs.Standing.{word_apart, named_one, not_capped, blocked_marked}

@@ -1,5 +1,5 @@
 -- What giving back asks, of each lock that is held, after each step.
-use Rattle.std.proofs.Common.{◌≡◌, ◌≢◌, ⊎_elim, ℕ, suc, Bool, true, false, true≢false, List, refl, sym, ap, ◌∙◌, subst}
+use Rattle.std.proofs.Common.{◌≡◌, ◌≢◌, ⊎_elim, ℕ, true, false, true≢false, List, refl, sym, ap, ◌∙◌, subst}
 use Rattle.at_model.specs.History.{replay}
 use Rattle.at_model.specs.World.{World}
 use Rattle.at_value.specs.declared.limits.Limits.{Limits}
@@ -14,14 +14,14 @@ use Rattle.at_core.specs.declared.world.Pass.{Pass}
 use Rattle.at_core.specs.Heads.{shape_of, IsWhole}
 use Rattle.at_core.specs.Locks.{slot_of, hold_of, holds, HoldsNone}
 use Rattle.at_core.specs.Opened.{opening_of}
-use Rattle.at_core.specs.Passes.{notes, view, slot_at, IsNoted, IsElsewhereSame, HasSameHand}
+use Rattle.at_core.specs.Passes.{view, slot_at, IsNoted, IsElsewhereSame, HasSameHand}
 use Rattle.at_core.specs.PlaceSteps.{place_loaded}
 use Rattle.at_core.specs.Plays.{RowSays}
 use Rattle.at_core.specs.Reads.{in_hand}
 use Rattle.at_core.specs.Rule.{Agrees}
 use Rattle.at_core.specs.Steps.{Moment, taken, missed, given, copied_heads, IsShut}
-use Rattle.at_core.proofs.LockLemmas.{lock_cases, hold_taken, hold_beside, hold_given, hold_kept, holds_missed, held_seen, copy_beside}
-use Rattle.at_lock.specs.Holding.{HasValue, HasOut, IsRight}
+use Rattle.at_core.proofs.LockLemmas.{lock_cases, hold_beside, hold_given, hold_kept, holds_missed, held_seen, copy_beside}
+use Rattle.at_lock.specs.Holding.{HasValue, IsRight}
 use Rattle.at_lock.specs.Waits.{waited, IsTakenAtOnce, IsTaken}
 use Rattle.at_lock.proofs.Waiting.{holds_waited}
 use Rattle.at_section.specs.Surfaces.{IsReady}

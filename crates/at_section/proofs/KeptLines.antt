@@ -1,5 +1,5 @@
 -- Kept sections leave their objects alone, as lines have it.
-use Rattle.std.proofs.Common.{◌≡◌, ℕ, suc, ◌-◌, ◌<◌, ◌≤◌, List, [], ◌∷◌, ◌++◌, length, take, refl, sym, ap, ◌∙◌, subst, arith, append_assoc, length-append}
+use Rattle.std.proofs.Common.{◌≡◌, ℕ, suc, ◌-◌, ◌≤◌, List, [], ◌∷◌, ◌++◌, length, take, sym, ap, ◌∙◌, subst, arith, append_assoc, length-append}
 use Rattle.std.specs.Prelude.{Contains}
 use Rattle.std.proofs.Math.Seq.{take-append_seam}
 use mathlib.Core.List.{IsPrefix}
@@ -7,7 +7,7 @@ use Rattle.at_line.specs.Kept.{rows_of}
 use Rattle.at_model.specs.History.{replay}
 use Rattle.at_value.specs.declared.operation.Op as op
 use Rattle.at_core.specs.Opened.{opening_of}
-use Rattle.at_core.proofs.Prefixes.{prefix_length, prefix_shorter, prefix_trans}
+use Rattle.at_core.proofs.Prefixes.{prefix_shorter, prefix_trans}
 use Rattle.at_section.specs.Kept.{KeptIsLeftAlone}
 
 -- what stands before a place is as much of the history

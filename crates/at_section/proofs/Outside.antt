@@ -1,14 +1,12 @@
 -- A pass that is in no section, and one that only looks at a lock.
 use Rattle.std.specs.List.{list_all}
-use Rattle.std.proofs.Common.{◌≡◌, ◌≢◌, ⊎_elim, ℕ, suc, Bool, true, false, true≢false, List, [], refl, sym, ap, ◌∙◌, subst}
-use Rattle.at_view.specs.declared.view.View.{View}
+use Rattle.std.proofs.Common.{◌≡◌, ◌≢◌, ⊎_elim, ℕ, true, false, true≢false, sym, ap, ◌∙◌, subst}
 use Rattle.at_core.specs.declared.lock.Lock as lock
 use Rattle.at_core.specs.declared.lock.Lock.TheVariants as locks
-use Rattle.at_core.specs.declared.note.Note.{Note}
 use Rattle.at_core.specs.declared.world.Pass.{Pass}
-use Rattle.at_core.specs.Locks.{holds, HoldsNone}
+use Rattle.at_core.specs.Locks.{holds}
 use Rattle.at_core.specs.Passes.{notes, view, IsElsewhereSame}
-use Rattle.at_core.specs.Steps.{taken, missed, given, IsShut}
+use Rattle.at_core.specs.Steps.{missed, given, IsShut}
 use Rattle.at_core.proofs.LockLemmas.{lock_cases}
 use Rattle.at_lock.specs.Holding.{HasValue}
 use Rattle.at_lock.specs.Waits.{IsTakenAtOnce}

@@ -1,11 +1,11 @@
 -- Scores of marks.
-use Rattle.std.proofs.Common.{◌≡◌, ◌⊎◌, ⊎_elim, inl, inr, ℕ, suc, ◌≤◌, Bool, true, false, true≢false, ◌||◌, ◌&&◌, List, [], ◌∷◌, ◌++◌, refl, sym, ap, ◌∙◌, subst, arith}
+use Rattle.std.proofs.Common.{◌≡◌, ◌⊎◌, ⊎_elim, inl, inr, ℕ, suc, ◌≤◌, Bool, true, false, true≢false, ◌||◌, ◌&&◌, List, [], ◌∷◌, ◌++◌, refl, sym, ap, ◌∙◌, arith}
 use Rattle.std.specs.Prelude.{not}
 use Rattle.std.specs.List.{list_all}
 use Rattle.at_view.specs.declared.mark.Mark.{Mark}
 use Rattle.at_core.specs.declared.lock.Lock as lock
-use Rattle.at_section.specs.Deeds.{Deed, tries, gives, loads, other, deed_of, was_free, names, Held, turned, held_by, held_after, blocked_by, blocked_after, IsFor, AreFor, gives_one, NoGive, finds_held, NoHeld, Every}
-use Rattle.at_section.specs.Scores.{Score, tried, given_back, scored, score, Start, opening}
+use Rattle.at_section.specs.Deeds.{Deed, tries, gives, loads, other, deed_of, was_free, names, Held, turned, held_by, held_after, blocked_by, blocked_after, AreFor, gives_one, NoGive, finds_held, NoHeld, Every}
+use Rattle.at_section.specs.Scores.{Score, tried, given_back, scored, score}
 
 -- Marks one after another
 

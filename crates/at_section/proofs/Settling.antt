@@ -1,7 +1,6 @@
 -- Which sections have their locks, and which locks are held, after each step.
-use Rattle.std.proofs.Common.{◌≡◌, ◌≢◌, ◌⊎◌, ⊎_elim, inl, inr, ℕ, suc, Bool, true, false, true≢false, ◌==◌, ◌||◌, ◌&&◌, List, [], ◌∷◌, ◌++◌, map, length, eqb-true, eq-eqb, refl, sym, ap, ◌∙◌, subst}
-use Rattle.std.specs.Prelude.{Some}
-use Rattle.std.specs.List.{list_all, list_any, find}
+use Rattle.std.proofs.Common.{◌≡◌, ◌≢◌, ◌⊎◌, ⊎_elim, inl, inr, ℕ, Bool, true, false, true≢false, ◌==◌, ◌||◌, ◌&&◌, List, [], ◌∷◌, ◌++◌, map, eqb-true, eq-eqb, refl, sym, ap, ◌∙◌, subst}
+use Rattle.std.specs.List.{list_all}
 use Rattle.std.specs.Cmp.Derive.{both_true}
 use Rattle.std.proofs.lemmas.Bool.{or_cases, or_left, or_right, and_parts}
 use Rattle.std.proofs.lemmas.List.Folds.{list_any-append}
@@ -11,17 +10,17 @@ use Rattle.at_core.specs.declared.lock.Lock as lock
 use Rattle.at_core.specs.declared.note.Note.{Note}
 use Rattle.at_core.specs.declared.world.Pass.{Pass}
 use Rattle.at_core.specs.Locks.{holds, HoldsNone}
-use Rattle.at_core.specs.Passes.{notes, view, IsNoted}
+use Rattle.at_core.specs.Passes.{notes, view}
 use Rattle.at_core.specs.PlaceSteps.{place_loaded}
 use Rattle.at_core.specs.Steps.{Moment, taken, missed, given}
 use Rattle.at_core.proofs.LockLemmas.{lock_cases}
-use Rattle.at_lock.specs.Waits.{IsTakenAtOnce, IsTaken}
+use Rattle.at_lock.specs.Waits.{IsTaken}
 use Rattle.at_section.specs.Calls.{last_of}
-use Rattle.at_section.specs.Deeds.{word_of, names, wanting, Held, held, turned, Every}
+use Rattle.at_section.specs.Deeds.{word_of, names, Held, held, turned, Every}
 use Rattle.at_section.specs.Sections.{locks_of, named_locks, lost, after_give, after_load}
 use Rattle.at_section.specs.Surfaces.{named, AreSettled, IsTop, AreHeld, IsReady, IsTaking, IsGiving}
 use Rattle.at_section.proofs.Holdings.{waited_alone}
-use Rattle.at_section.proofs.Standing.{word_one, every_map, turned_at, turned_else, held_taken, held_given, held_missed, held_loaded, lost_locks}
+use Rattle.at_section.proofs.Standing.{word_one, every_map, turned_at, turned_else, held_taken, held_given, held_missed, held_loaded}
 use Rattle.at_section.proofs.Steps.{free_same}
 
 pub same_test : (x y : Bool) → (x ≡ true → y ≡ true) → (y ≡ true → x ≡ true) → x ≡ y

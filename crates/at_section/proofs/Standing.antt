@@ -1,8 +1,8 @@
 -- Each step leaves the notes what the trace says.
-use Rattle.std.proofs.Common.{◌≡◌, ◌≢◌, ◌⊎◌, ⊎_elim, ℕ, suc, ◌<◌, ◌≤◌, Bool, true, false, true≢false, ◌==◌, ◌||◌, ◌&&◌, List, [], ◌∷◌, ◌++◌, map, length, eq-eqb, ne_eqb, eqb-true, refl, sym, ap, ◌∙◌, subst, arith, append_assoc}
+use Rattle.std.proofs.Common.{◌≡◌, ◌≢◌, ⊎_elim, ℕ, suc, ◌<◌, ◌≤◌, Bool, true, false, true≢false, ◌==◌, ◌||◌, ◌&&◌, List, [], ◌∷◌, ◌++◌, map, length, eq-eqb, ne_eqb, eqb-true, refl, sym, ap, ◌∙◌, subst, arith, append_assoc}
 use Rattle.std.specs.Prelude.{Some, None, nat_lt, if◌then◌else◌}
 use Rattle.std.specs.List.{list_all}
-use Rattle.std.proofs.lemmas.Bool.{or_cases, or_left, or_right, and_parts}
+use Rattle.std.proofs.lemmas.Bool.{or_cases}
 use Rattle.std.proofs.lemmas.Bool.Decides.{nat_tests}
 use Rattle.at_value.specs.declared.operation.Op as op
 use Rattle.at_view.specs.declared.mark.Mark.{Mark}
@@ -15,13 +15,12 @@ use Rattle.at_core.specs.declared.lock.Lock.TheVariants as locks
 use Rattle.at_core.specs.declared.note.Note.{Note}
 use Rattle.at_core.specs.declared.world.Pass.{Pass}
 use Rattle.at_core.specs.Locks.{lock_word, hold_of, holds}
-use Rattle.at_core.specs.Passes.{notes, view}
 use Rattle.at_core.specs.PlaceSteps.{place_loaded}
-use Rattle.at_core.specs.Steps.{Moment, mark, taken, missed, given, hold_from, let_go}
+use Rattle.at_core.specs.Steps.{Moment, mark, taken, missed, given}
 use Rattle.at_core.proofs.LockLemmas.{lock_cases, hold_taken, hold_beside, hold_given, hold_kept, holds_missed, held_seen, hold_marked}
-use Rattle.at_section.specs.Deeds.{Deed, other, deed_of, was_free, word_of, names, Held, held, turned, held_by, blocked_by, blocked_after, is_blocked, Every}
-use Rattle.at_section.specs.Scores.{Score, tried, given_back, scored, score, Start, opening, start_of, capped, most}
-use Rattle.at_section.specs.Sections.{locks_of, lost, after_give, after_load, IsHeldSince, Stands, Pairs, Sections, Stay}
+use Rattle.at_section.specs.Deeds.{other, deed_of, word_of, names, Held, held, turned, blocked_by, blocked_after, is_blocked, Every}
+use Rattle.at_section.specs.Scores.{Score, given_back, scored, score, Start, opening, capped, most}
+use Rattle.at_section.specs.Sections.{locks_of, lost, after_give, after_load, IsHeldSince, Stands, Pairs, Stay}
 use Rattle.at_section.proofs.Scores.{score_more, blocked_more, kept_gives_none}
 
 -- Words of locks

@@ -1,11 +1,9 @@
 -- What each step leaves of a pass and its sections.
-use Rattle.std.proofs.Common.{◌≡◌, ◌≢◌, ◌⊎◌, ⊎_elim, inl, inr, ℕ, suc, Bool, true, false, true≢false, ◌||◌, ◌&&◌, List, [], ◌∷◌, ◌++◌, map, length, refl, sym, ap, ◌∙◌, subst, append_assoc, append-nil}
-use Rattle.std.specs.Prelude.{All, IsTrue, Some, None}
-use Rattle.std.specs.List.{list_any}
+use Rattle.std.proofs.Common.{◌≡◌, ◌⊎◌, ⊎_elim, inl, inr, ℕ, suc, Bool, true, false, true≢false, ◌||◌, ◌&&◌, List, [], ◌∷◌, ◌++◌, map, length, refl, sym, ap, ◌∙◌, subst, append_assoc, append-nil}
+use Rattle.std.specs.Prelude.{All, Some, None}
 use Rattle.std.proofs.lemmas.List.Elements.{All-head}
 use mathlib.Core.List.{IsPrefix}
 use Rattle.at_value.specs.declared.operation.Op as op
-use Rattle.at_view.specs.declared.mark.Mark.{Mark}
 use Rattle.at_view.specs.declared.mark.StepKind.TheVariants as kinds
 use Rattle.at_view.specs.declared.view.View.{View}
 use Rattle.at_view.specs.Words.{place}
@@ -14,7 +12,6 @@ use Rattle.at_core.specs.declared.note.Note.{Note}
 use Rattle.at_core.specs.declared.world.Pass.{Pass}
 use Rattle.at_core.specs.Locks.{lock_word, holds, HoldsNone}
 use Rattle.at_core.specs.Passes.{notes, view, IsSame, IsNoted}
-use Rattle.at_core.specs.PlacePlays.{Saw}
 use Rattle.at_core.specs.PlaceSteps.{place_loaded}
 use Rattle.at_core.specs.Plays.{Found, IsAlone}
 use Rattle.at_core.specs.Steps.{Moment, mark, taken, missed, given}
@@ -23,9 +20,9 @@ use Rattle.at_core.proofs.LockLemmas.{holds_missed}
 use Rattle.at_lock.specs.Waits.{waited, IsTakenAtOnce, IsTaken}
 use Rattle.at_lock.proofs.Waiting.{holds_waited}
 use Rattle.at_section.specs.Calls.{IsSamePass, IsLeft, Adds, Moves}
-use Rattle.at_section.specs.Deeds.{word_of, names, wanting, Held, held, held_after, is_blocked, AreFor, NoHeld, Every}
+use Rattle.at_section.specs.Deeds.{word_of, names, wanting, held, held_after, is_blocked, AreFor}
 use Rattle.at_section.specs.Scores.{Start}
-use Rattle.at_section.specs.Sections.{locks_of, named_locks, lost, after_give, after_load, Stands, Sections, Stay, Pairs}
+use Rattle.at_section.specs.Sections.{locks_of, named_locks, lost, after_give, after_load, Stands, Stay, Pairs}
 use Rattle.at_section.specs.Surfaces.{named}
 use Rattle.at_section.proofs.Scores.{held_more, for_more, every_more}
 use Rattle.at_section.proofs.Standing.{held_taken, held_missed, held_given, held_loaded, stands_taken, stands_missed, stands_given, stands_loaded, lost_locks, pairs_map, pairs_same, stay_same, stay_then}

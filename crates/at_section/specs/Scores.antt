@@ -1,6 +1,6 @@
 -- What the trace says of a section. A section has its locks from a load of the place on at which the pass holds all of them,
 -- whoever they were taken for, until one of them is given. Then it is given back.
-use Rattle.std.specs.Prelude.{ℕ, suc, ◌≡◌, ◌||◌, ◌&&◌, nat_lt, Bool, true, false, List, [], ◌∷◌, if◌then◌else◌}
+use Rattle.std.specs.Prelude.{ℕ, suc, ◌||◌, ◌&&◌, nat_lt, Bool, true, false, List, [], ◌∷◌, if◌then◌else◌}
 use Rattle.std.specs.List.{list_all}
 use Rattle.at_view.specs.declared.mark.Mark.{Mark}
 use Rattle.at_view.specs.declared.view.View.{View}

@@ -10,7 +10,7 @@ use Rattle.at_core.specs.declared.world.Pass.{Pass}
 use Rattle.at_core.specs.Locks.{hold_of, holds}
 use Rattle.at_core.specs.Passes.{notes, view}
 use Rattle.at_section.specs.Deeds.{Every, Held, held, names, word_of, is_blocked}
-use Rattle.at_section.specs.Scores.{Score, score, Start, opening, capped, most}
+use Rattle.at_section.specs.Scores.{score, Start, opening, capped, most}
 
 -- Locks
 

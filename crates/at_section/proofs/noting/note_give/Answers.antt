@@ -1,7 +1,6 @@
-use Rattle.std.proofs.Common.{◌≡◌, ℕ, ◌<◌, length, sym, ap, ◌∙◌, arith, length-set}
-use Rattle.at_core.specs.Passes.{notes, view}
-use Rattle.at_section.specs.Deeds.{held}
-use Rattle.at_section.specs.Sections.{after_give, after_load}
+use Rattle.std.proofs.Common.{ℕ, ◌<◌, length, ap, ◌∙◌, arith, length-set}
+use Rattle.at_core.specs.Passes.{notes}
+use Rattle.at_section.specs.Sections.{after_give}
 use Rattle.at_section.proofs.Notes.{changed_more}
 use Rattle.at_section.proofs.noting.note_give.Goals as goal
 

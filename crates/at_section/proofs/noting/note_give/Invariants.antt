@@ -1,7 +1,6 @@
 use Rattle.std.proofs.Common.{◌≡◌, map, take, drop, ◌++◌, length}
-use Rattle.at_core.specs.Passes.{notes, view, IsNoted}
-use Rattle.at_section.specs.Deeds.{held}
-use Rattle.at_section.specs.Sections.{after_give, after_load}
+use Rattle.at_core.specs.Passes.{notes, IsNoted}
+use Rattle.at_section.specs.Sections.{after_give}
 use Rattle.at_section.proofs.noting.note_give.Given as goal
 
 -- so many notes are changed

@@ -1,7 +1,7 @@
-use Rattle.std.proofs.Common.{◌≡◌, ℕ, ◌<◌, set, length, sym, ap, ◌∙◌, arith, length-set}
+use Rattle.std.proofs.Common.{ℕ, ◌<◌, set, length, ap, ◌∙◌, arith, length-set}
 use Rattle.at_core.specs.Passes.{notes, view}
 use Rattle.at_section.specs.Deeds.{held}
-use Rattle.at_section.specs.Sections.{after_give, after_load}
+use Rattle.at_section.specs.Sections.{after_load}
 use Rattle.at_section.proofs.Notes.{changed_more}
 use Rattle.at_section.proofs.noting.note_load.Goals as goal
 

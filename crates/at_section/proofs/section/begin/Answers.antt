@@ -1,4 +1,4 @@
-use Rattle.std.proofs.Common.{◌≡◌, ℕ, false, List, subst}
+use Rattle.std.proofs.Common.{List, subst}
 use Rattle.std.specs.Prelude.{Some}
 use Rattle.at_core.specs.declared.lock.Lock as lock
 use Rattle.at_core.specs.Passes.{notes}

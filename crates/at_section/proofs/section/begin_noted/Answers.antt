@@ -1,5 +1,5 @@
-use Rattle.std.proofs.Common.{◌≡◌, ℕ, true, ap, ◌∙◌}
-use Rattle.at_core.specs.Passes.{notes, view}
+use Rattle.std.proofs.Common.{◌≡◌, true, ap, ◌∙◌}
+use Rattle.at_core.specs.Passes.{view}
 use Rattle.at_section.specs.Sections.{locks_of}
 use Rattle.at_section.proofs.Begun.{begins_of}
 use Rattle.at_section.proofs.Holdings.{ready_noted}

@@ -1,8 +1,6 @@
-use Rattle.std.proofs.Common.{◌≡◌, ℕ, [], List, map, sym, ap, ◌∙◌}
+use Rattle.std.proofs.Common.{[], sym, ap, ◌∙◌}
 use Rattle.at_core.specs.Passes.{notes, view}
-use Rattle.at_core.specs.declared.note.Note.{Note}
 use Rattle.at_section.specs.Deeds.{held}
-use Rattle.at_section.specs.Sections.{locks_of}
 use Rattle.at_section.proofs.Begun.{finishes_of}
 use Rattle.at_section.proofs.Holdings.{ready_noted}
 use Rattle.at_section.proofs.Settling.{giving_loaded, giving_popped, load_leaves, taking_held}

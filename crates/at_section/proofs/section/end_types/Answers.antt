@@ -1,11 +1,9 @@
-use Rattle.std.proofs.Common.{◌≡◌, ◌≢◌, ⊎_elim, true, List, ◌++◌, ◌∷◌, [], sym, ap, ◌∙◌, subst}
-use Rattle.at_core.specs.declared.lock.Lock as lock
+use Rattle.std.proofs.Common.{◌≡◌, ◌≢◌, ⊎_elim, sym, ap, ◌∙◌, subst}
 use Rattle.at_core.specs.declared.lock.Lock.TheVariants as locks
 use Rattle.at_core.specs.Locks.{holds}
 use Rattle.at_core.specs.Passes.{notes, view}
 use Rattle.at_core.proofs.LockLemmas.{lock_cases}
 use Rattle.at_lock.specs.Holding.{HasValue}
-use Rattle.at_section.specs.Calls.{Finishes}
 use Rattle.at_section.specs.Surfaces.{AreHeld, NamesNoTypes}
 use Rattle.at_section.proofs.Begun.{finishes_before}
 use Rattle.at_section.proofs.Ending.{never_kept, same_types}

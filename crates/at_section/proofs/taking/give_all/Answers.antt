@@ -1,5 +1,4 @@
-use Rattle.std.proofs.Common.{◌≡◌, List}
-use Rattle.at_core.specs.Passes.{notes, view}
+use Rattle.at_core.specs.Passes.{view}
 use Rattle.at_section.proofs.Room.{none_held, blocked_given}
 use Rattle.at_section.proofs.Settling.{backed_after_give, taking_none}
 use Rattle.at_section.proofs.Steps.{moves_same, moves_then, moves_given}

@@ -1,5 +1,5 @@
-use Rattle.std.proofs.Common.{◌≡◌, ℕ, suc, ◌-◌, List, [], ◌∷◌, ◌++◌, length, sym, ap, ◌∙◌, subst, arith}
-use Rattle.std.specs.Prelude.{Some, IfSome, IfNone, Option}
+use Rattle.std.proofs.Common.{◌≡◌, ◌-◌, List, [], ◌∷◌, ◌++◌, sym, ◌∙◌, subst, arith}
+use Rattle.std.specs.Prelude.{IfSome, IfNone, Option}
 use Rattle.at_core.specs.declared.note.Note.{Note}
 use Rattle.at_core.specs.Passes.{notes}
 use Rattle.at_section.proofs.Notes.{Last, last_got}

@@ -1,8 +1,4 @@
-use Rattle.std.proofs.Common.{◌≡◌, Bool, true, false, List, sym, ◌∙◌}
-use Rattle.at_core.specs.declared.lock.Lock as lock
-use Rattle.at_core.specs.Locks.{holds}
-use Rattle.at_core.specs.Passes.{notes, view}
-use Rattle.at_section.specs.Surfaces.{named, IsGiving}
+use Rattle.std.proofs.Common.{sym, ◌∙◌}
 use Rattle.at_section.proofs.Settling.{released_given, released_named, released_out}
 use Rattle.at_section.proofs.Steps.{moves_released, moves_same}
 use Rattle.at_section.proofs.taking.release.Goals.{else-has_lock-via-then-has_lock+else-not-is_named, else-has_lock-via-else-has_lock}

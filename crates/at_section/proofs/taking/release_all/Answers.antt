@@ -1,4 +1,4 @@
-use Rattle.std.proofs.Common.{◌≡◌, List, [], ◌++◌, sym, subst, append-nil}
+use Rattle.std.proofs.Common.{List, [], ◌++◌, sym, subst, append-nil}
 use Rattle.at_core.specs.declared.lock.Lock as lock
 use Rattle.at_section.specs.Sections.{row_lock}
 use Rattle.at_section.specs.Surfaces.{IsGiving}

@@ -1,5 +1,4 @@
-use Rattle.std.proofs.Common.{◌≡◌, ℕ, ◌++◌, List, Option, subst, sym}
-use Rattle.at_core.specs.declared.lock.Lock as lock
+use Rattle.std.proofs.Common.{ℕ, ◌++◌, Option, subst}
 use Rattle.at_section.specs.Sections.{row_lock}
 use Rattle.at_section.specs.Surfaces.{IsGiving}
 use Rattle.at_section.proofs.Steps.{moves_same}

@@ -1,4 +1,4 @@
-use Rattle.std.proofs.Common.{◌≡◌, Bool, ◌++◌, List, subst}
+use Rattle.std.proofs.Common.{Bool, ◌++◌, subst}
 use Rattle.at_section.specs.Sections.{types_lock}
 use Rattle.at_section.specs.Surfaces.{IsGiving}
 use Rattle.at_section.proofs.Steps.{moves_same}

@@ -1,4 +1,4 @@
-use Rattle.std.proofs.Common.{◌≡◌, length, sym, ap, ◌∙◌, arith}
+use Rattle.std.proofs.Common.{sym, ◌∙◌, arith}
 use Rattle.at_core.specs.Passes.{notes, view}
 use Rattle.at_section.specs.Deeds.{held}
 use Rattle.at_section.specs.Sections.{locks_of}

@@ -1,12 +1,11 @@
-use Rattle.std.proofs.Common.{◌≡◌, ℕ, suc, Bool, true, false, refl, ap, ◌∙◌}
+use Rattle.std.proofs.Common.{ℕ, suc, refl, ap, ◌∙◌}
 use Rattle.std.specs.Prelude.{Some}
 use Rattle.at_view.specs.declared.mark.StepKind.TheVariants as kinds
 use Rattle.at_core.specs.Locks.{lock_word}
-use Rattle.at_core.specs.Passes.{notes, view}
+use Rattle.at_core.specs.Passes.{view}
 use Rattle.at_core.specs.Steps.{mark, missed}
 use Rattle.at_section.specs.Deeds.{held, is_blocked}
 use Rattle.at_section.specs.Sections.{locks_of}
-use Rattle.at_section.specs.Surfaces.{IsReady}
 use Rattle.at_section.proofs.Holdings.{ready_missed, ready_taken, ready_waited}
 use Rattle.at_section.proofs.Room.{first_names, room_left}
 use Rattle.at_section.proofs.Settling.{taking_missed, taking_taken, taking_waited}

@@ -1,7 +1,7 @@
-use Rattle.std.proofs.Common.{◌≡◌, ℕ, ◌<◌, ◌≤◌, List, sym, ap, ◌∙◌, arith}
-use Rattle.std.specs.Prelude.{Some, is_some, slice_get, map, suc}
+use Rattle.std.proofs.Common.{ℕ, ◌<◌, List, sym, ap, ◌∙◌, arith}
+use Rattle.std.specs.Prelude.{is_some, slice_get, suc}
 use Rattle.at_value.specs.Widths.{objects}
-use Rattle.at_core.specs.Reads.{in_hand, slot_number}
+use Rattle.at_core.specs.Reads.{in_hand}
 use Rattle.at_core.proofs.HandOf.{front_in}
 use Rattle.at_core.proofs.world.Pass.front_lock.Goals as goal
 
