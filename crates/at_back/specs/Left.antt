@@ -1,7 +1,30 @@
--- private: no public clause cites it. What a reader of the code leaves.
-use Rattle.std.specs.Prelude.{ℕ, List, Option, Some, None}
+-- private: no public clause cites it. What a reader of the code gives, and what it leaves of the text.
+use Rattle.std.specs.Prelude.{ℕ, Bool, true, false, List, Option, Some, None, Result, Ok, Err}
+use Rattle.at_back.specs.declared.fault.PieceFault.{PieceFault}
+use Rattle.at_back.specs.declared.fault.PieceFault.TheVariants as faults
 
 -- what was read, and what is left of the text
 abbrev pub left : {A : Type 0} → Option A → List ℕ → Option (A × List ℕ)
 left None text = None
 left (Some a) text = Some (a, text)
+
+-- what is left after a word that stood at the front
+abbrev pub kept : Bool → List ℕ → Option (List ℕ)
+kept false text = None
+kept true text = Some text
+
+-- the same, where nothing else is given
+abbrev pub passed : {A : Type 0} → Option A → List ℕ → Option (List ℕ)
+passed None text = None
+passed (Some a) text = Some text
+
+-- what was read, where nothing is wrong
+abbrev pub found : {A : Type 0} → Result A PieceFault → Option A
+found (Ok a) = Some a
+found (Err fault) = None
+
+-- this holds where memory was found
+abbrev pub IfTold : {A : Type 0} → Result A PieceFault → Type 0 → Type 0
+IfTold (Ok a) P = P
+IfTold (Err faults.Wrong) P = P
+IfTold (Err faults.NoMemory) P = Unit {0}

@@ -1,1 +1,3 @@
 pub mod Left
+pub mod Indexing
+pub mod Transcripts

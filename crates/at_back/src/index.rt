@@ -1,16 +1,23 @@
 //! The names of a script, found by their texts.
+ghost use Rattle.std.specs.Prelude.{◌≡◌, IfOk};
+ghost use Rattle.std.specs.Option.{option_copied};
+ghost use Rattle.at_name.specs.Texts.{place_of};
+ghost use Rattle.at_script.specs.Laws.{AreIdentifiers, AreToldApart};
+ghost use Rattle.at_text.specs.Values.{text_at};
+ghost use Rattle.at_back.specs.Indexing.{added};
 
 use at_name::Texts;
 use at_script::Script;
 use at_value::{Class, Func, Name};
 use std::alloc::{AllocError, Global};
+use std::marker::Model;
 
 const NAMES: usize = Name::COUNT as usize;
 const CLASSES: usize = Class::COUNT as usize;
 const FUNCS: usize = Func::COUNT as usize;
 const VARS: usize = 1024;
 
-/// What a script names, each found by its text.
+/// What a script names, each found by its text. Contracts see the script.
 #[derive(Drop)]
 pub struct Index<'s> {
     script: &'s Script,
@@ -20,9 +27,24 @@ pub struct Index<'s> {
     vars: Texts<VARS>,
 }
 
+impl<'s> Model for Index<'s> {
+    ghost use Rattle.std.specs.Prelude.{◌≡◌};
+    ghost use Rattle.at_script.specs.Parts.{ScriptParts};
+
+    ghost Value = { ScriptParts };
+
+    ghost view = { λ i. i.script.now };
+
+    ghost invariant = { λ i. (i.names ≡ i.script.now.names) × (i.classes ≡ i.script.now.classes)
+        × (i.funcs ≡ i.script.now.funcs) × (i.vars ≡ i.script.now.vars) };
+}
+
 impl<'s> Index<'s> {
-    /// The names of the script.
-    pub fn new(alloc: Global, script: &'s Script) -> Result<Index<'s>, AllocError> {
+    /// The names of the script, which are told apart.
+    pub fn new(alloc: Global, script: &'s Script) -> Result<Index<'s>, AllocError>
+        requires { AreToldApart script.now }
+        ensures { IfOk result (λ index. index ≡ script.now) }
+    {
         Ok(Index {
             script,
             names: names_of(alloc, script)?,
@@ -33,27 +55,38 @@ impl<'s> Index<'s> {
     }
 
     /// The attribute name or the text that has this text.
-    pub fn name(&self, text: &str) -> Option<Name> {
+    pub fn name(&self, text: &str) -> Option<Name>
+        ensures { result ≡ place_of text.now self.now.names }
+    {
         Name::new(self.names.place_of(text)? as u16)
     }
 
     /// The class of this name.
-    pub fn class(&self, text: &str) -> Option<Class> {
+    pub fn class(&self, text: &str) -> Option<Class>
+        ensures { result ≡ place_of text.now self.now.classes }
+    {
         Class::new(self.classes.place_of(text)? as u16)
     }
 
     /// The function of this name.
-    pub fn func(&self, text: &str) -> Option<Func> {
+    pub fn func(&self, text: &str) -> Option<Func>
+        ensures { result ≡ place_of text.now self.now.funcs }
+    {
         Func::new(self.funcs.place_of(text)? as u16)
     }
 
     /// The variable of this name.
-    pub fn var(&self, text: &str) -> Option<u16> {
-        Some(self.vars.place_of(text)? as u16)
+    pub fn var(&self, text: &str) -> Option<u16>
+        ensures { result ≡ place_of text.now self.now.vars }
+    {
+        let place = self.vars.place_of(text)?;
+        Some(place as u16)
     }
 
     /// The text of a name, and nothing where the script has no such name.
-    pub fn text(&self, name: Name) -> &str {
+    pub fn text(&self, name: Name) -> &str
+        ensures { result.now ≡ text_at self.now.names name }
+    {
         match self.script.name_text(name) {
             Some(text) => text,
             None => "",
@@ -61,48 +94,56 @@ impl<'s> Index<'s> {
     }
 }
 
-/// Puts a text at the end, where there is one.
-fn add<const MOST: usize>(
-    texts: &mut Texts<MOST>,
-    text: Option<&str>,
-) -> Result<(), AllocError> {
+/// Puts the text with this number at the end.
+fn add<const MOST: usize>(texts: &mut Texts<MOST>, text: Option<&str>) -> Result<(), AllocError>
+    ensures { IfOk result (λ _. texts.new ≡ added MOST (option_copied text) texts.old) }
+{
     if let Some(text) = text {
         texts.intern(text)?;
     }
     Ok(())
 }
 
-fn names_of(alloc: Global, script: &Script) -> Result<Texts<NAMES>, AllocError> {
+fn names_of(alloc: Global, script: &Script) -> Result<Texts<NAMES>, AllocError>
+    requires { AreIdentifiers script.now.names }
+    ensures { IfOk result (λ texts. texts ≡ script.now.names) }
+{
     let mut texts = Texts::new(alloc);
     for number in 0..script.names() {
-        if let Some(name) = Name::new(number as u16) {
-            add(&mut texts, script.name_text(name))?;
-        }
+        let name = Name::new(number as u16).unwrap();
+        add(&mut texts, script.name_text(name))?;
     }
     Ok(texts)
 }
 
-fn classes_of(alloc: Global, script: &Script) -> Result<Texts<CLASSES>, AllocError> {
+fn classes_of(alloc: Global, script: &Script) -> Result<Texts<CLASSES>, AllocError>
+    requires { AreIdentifiers script.now.classes }
+    ensures { IfOk result (λ texts. texts ≡ script.now.classes) }
+{
     let mut texts = Texts::new(alloc);
     for number in 0..script.classes() {
-        if let Some(class) = Class::new(number as u16) {
-            add(&mut texts, script.class_text(class))?;
-        }
+        let class = Class::new(number as u16).unwrap();
+        add(&mut texts, script.class_text(class))?;
     }
     Ok(texts)
 }
 
-fn funcs_of(alloc: Global, script: &Script) -> Result<Texts<FUNCS>, AllocError> {
+fn funcs_of(alloc: Global, script: &Script) -> Result<Texts<FUNCS>, AllocError>
+    requires { AreIdentifiers script.now.funcs }
+    ensures { IfOk result (λ texts. texts ≡ script.now.funcs) }
+{
     let mut texts = Texts::new(alloc);
     for number in 0..script.funcs() {
-        if let Some(func) = Func::new(number as u16) {
-            add(&mut texts, script.func_text(func))?;
-        }
+        let func = Func::new(number as u16).unwrap();
+        add(&mut texts, script.func_text(func))?;
     }
     Ok(texts)
 }
 
-fn vars_of(alloc: Global, script: &Script) -> Result<Texts<VARS>, AllocError> {
+fn vars_of(alloc: Global, script: &Script) -> Result<Texts<VARS>, AllocError>
+    requires { AreIdentifiers script.now.vars }
+    ensures { IfOk result (λ texts. texts ≡ script.now.vars) }
+{
     let mut texts = Texts::new(alloc);
     for number in 0..script.vars() {
         add(&mut texts, script.var_text(number as u16))?;

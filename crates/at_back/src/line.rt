@@ -1,8 +1,15 @@
 //! Reading lines.
+ghost use Rattle.std.specs.Prelude.{◌≡◌, ◌^◌, map, codes};
+ghost use Rattle.at_text.specs.Readers.{nothing, choice, before, both, number_at};
+ghost use Rattle.at_text.specs.ReadLines as read_lines;
+ghost use Rattle.at_text.specs.Tables.{local_word, all_local_words};
+ghost use Rattle.at_script.specs.Parts.{ScriptParts};
+ghost use Rattle.at_back.specs.Left.{left, found, IfTold};
 
 use crate::cursor::Cursor;
 use crate::fault::{PieceFault, there};
 use crate::index::Index;
+use crate::number::number_of;
 use crate::operation::line_op_at;
 use crate::reply::line_reply_at;
 use crate::value::var_at;
@@ -15,12 +22,16 @@ use std::alloc::Global;
 const SHORT: u64 = 1 << 32;
 
 /// A number of 64 bits.
-fn long_at(text: &mut Cursor<'_>) -> Option<u64> {
-    crate::number::number_of(text.run())
+fn long_at(text: &mut Cursor<'_>) -> Option<u64>
+    ensures { left result text.new ≡ number_at (2 ^ 64) text.old }
+{
+    number_of(text.run())
 }
 
 /// The way that a call went, between blanks, with 0 for each number that a miss carries.
-fn path_item_at(text: &mut Cursor<'_>) -> Option<Path> {
+fn path_item_at(text: &mut Cursor<'_>) -> Option<Path>
+    ensures { left result text.new ≡ read_lines.path_item_at text.old }
+{
     for path in paths() {
         if text.past(path_text(&path)) {
             return Some(path);
@@ -29,7 +40,9 @@ fn path_item_at(text: &mut Cursor<'_>) -> Option<Path> {
     None
 }
 
-fn local_word_at(text: &mut Cursor<'_>) -> Option<LocalWord> {
+fn local_word_at(text: &mut Cursor<'_>) -> Option<LocalWord>
+    ensures { left result text.new ≡ choice (map (λ w. (local_word w, nothing w)) all_local_words) text.old }
+{
     for word in LocalWord::ALL {
         if text.past(word.text()) {
             return Some(word);
@@ -38,68 +51,97 @@ fn local_word_at(text: &mut Cursor<'_>) -> Option<LocalWord> {
     None
 }
 
+fn unbound_at(text: &mut Cursor<'_>, names: &Index<'_>) -> Option<Local>
+    ensures { left result text.new ≡ read_lines.local_rest names.now LocalWord.Unbound text.old }
+{
+    let var = var_at(text, names)?;
+    Some(Local::Unbound(var))
+}
+
+fn worn_at(text: &mut Cursor<'_>) -> Option<Local>
+    ensures { (s : ScriptParts) → left result text.new ≡ read_lines.local_rest s LocalWord.Worn text.old }
+{
+    let sequence = long_at(text)?;
+    Some(Local::Worn(sequence))
+}
+
+fn full_at(text: &mut Cursor<'_>) -> Option<Local>
+    ensures { (s : ScriptParts) → left result text.new ≡ read_lines.local_rest s LocalWord.Full text.old }
+{
+    let place = long_at(text)?;
+    Some(Local::Full(place))
+}
+
 /// What a line that is no operation says, after its word.
-fn local_rest(text: &mut Cursor<'_>, names: &Index<'_>, word: LocalWord) -> Option<Local> {
+fn local_rest(text: &mut Cursor<'_>, names: &Index<'_>, word: LocalWord) -> Option<Local>
+    ensures { left result text.new ≡ read_lines.local_rest names.now word text.old }
+{
     match word {
         LocalWord::Depth => Some(Local::Depth),
         LocalWord::Budget => Some(Local::Budget),
         LocalWord::Kind => Some(Local::Kind),
-        LocalWord::Unbound => Some(Local::Unbound(var_at(text, names)?)),
+        LocalWord::Unbound => unbound_at(text, names),
         LocalWord::NotCallable => Some(Local::NotCallable),
-        LocalWord::Worn => Some(Local::Worn(long_at(text)?)),
-        LocalWord::Full => Some(Local::Full(long_at(text)?)),
+        LocalWord::Worn => worn_at(text),
+        LocalWord::Full => full_at(text),
     }
 }
 
-fn local_at(text: &mut Cursor<'_>, names: &Index<'_>) -> Option<Local> {
+fn local_at(text: &mut Cursor<'_>, names: &Index<'_>) -> Option<Local>
+    ensures { left result text.new ≡ read_lines.local_at names.now text.old }
+{
     let word = local_word_at(text)?;
     local_rest(text, names, word)
 }
 
 /// A thread: `m`, `f`, or `t` and its number.
-fn thread_at(text: &mut Cursor<'_>) -> Option<u8> {
+fn thread_at(text: &mut Cursor<'_>) -> Option<u8>
+    ensures { left result text.new ≡ read_lines.thread_at text.old }
+{
     if text.past(b"m") {
-        Some(MAIN_THREAD)
-    } else if text.past(b"f") {
-        Some(FINALLY_THREAD)
-    } else {
-        text.expect(b"t")?;
-        Some(text.positive(u64::from(FINALLY_THREAD))? as u8)
+        return Some(MAIN_THREAD);
     }
+    if text.past(b"f") {
+        return Some(FINALLY_THREAD);
+    }
+    text.expect(b"t")?;
+    let thread = text.positive(u64::from(FINALLY_THREAD))?;
+    Some(thread as u8)
 }
 
 /// Place, path and operation.
-fn done_at(text: &mut Cursor<'_>, names: &Index<'_>) -> Option<(Place, Path, LineOp)> {
+fn done_at(text: &mut Cursor<'_>, names: &Index<'_>) -> Option<((u64, Path), LineOp)>
+    ensures { left result text.new ≡ read_lines.done_at names.now text.old }
+{
     let place = long_at(text)?;
     let path = path_item_at(text)?;
     let op = line_op_at(text, names)?;
     text.expect(EQUALS)?;
-    Some((Place(place), path, op))
+    Some(((place, path), op))
 }
 
 /// Place, path, operation and reply.
-fn did_at(
-    alloc: Global,
-    text: &mut Cursor<'_>,
-    names: &Index<'_>,
-) -> Result<What, PieceFault> {
-    let (place, path, op) = there(done_at(text, names))?;
+fn did_at(alloc: Global, text: &mut Cursor<'_>, names: &Index<'_>) -> Result<What, PieceFault>
+    ensures { IfTold result (left (found result) text.new ≡ read_lines.did_at names.now text.old) }
+{
+    let ((place, path), op) = there(done_at(text, names))?;
     let reply = line_reply_at(alloc, text, names)?;
-    Ok(What::Did(place, path, op, reply))
+    Ok(What::Did(Place(place), path, op, reply))
 }
 
 /// What a line that is no operation says.
-fn local_what_at(text: &mut Cursor<'_>, names: &Index<'_>) -> Option<What> {
+fn local_what_at(text: &mut Cursor<'_>, names: &Index<'_>) -> Option<What>
+    ensures { left result text.new ≡ read_lines.local_what_at names.now text.old }
+{
     text.expect(LOCAL)?;
-    Some(What::Local(local_at(text, names)?))
+    let local = local_at(text, names)?;
+    Some(What::Local(local))
 }
 
 /// What a line says after its thread and its number.
-fn what_at(
-    alloc: Global,
-    text: &mut Cursor<'_>,
-    names: &Index<'_>,
-) -> Result<What, PieceFault> {
+fn what_at(alloc: Global, text: &mut Cursor<'_>, names: &Index<'_>) -> Result<What, PieceFault>
+    ensures { IfTold result (left (found result) text.new ≡ read_lines.what_at names.now text.old) }
+{
     if text.begins_run() {
         did_at(alloc, text, names)
     } else {
@@ -108,7 +150,9 @@ fn what_at(
 }
 
 /// The thread and the number of a line, each with a blank after it.
-fn front_at(text: &mut Cursor<'_>) -> Option<(u8, u32)> {
+fn front_at(text: &mut Cursor<'_>) -> Option<(u8, u32)>
+    ensures { left result text.new ≡ read_lines.front_at text.old }
+{
     let thread = thread_at(text)?;
     text.expect(b" ")?;
     let number = text.number(SHORT)?;
@@ -121,7 +165,9 @@ pub fn line_at(
     alloc: Global,
     text: &mut Cursor<'_>,
     names: &Index<'_>,
-) -> Result<Line, PieceFault> {
+) -> Result<Line, PieceFault>
+    ensures { IfTold result (left (found result) text.new ≡ read_lines.line_at names.now text.old) }
+{
     let (thread, number) = there(front_at(text))?;
     let what = what_at(alloc, text, names)?;
     there(text.expect(b"\n"))?;

@@ -1,4 +1,10 @@
 //! Reading operations.
+ghost use Rattle.std.specs.Prelude.{◌≡◌, map};
+ghost use Rattle.at_text.specs.Readers.{nothing, choice};
+ghost use Rattle.at_text.specs.Tables.{op_word, all_op_words};
+ghost use Rattle.at_text.specs.ReadLines as read_lines;
+ghost use Rattle.at_script.specs.Parts.{ScriptParts};
+ghost use Rattle.at_back.specs.Left.{left};
 
 use crate::cursor::Cursor;
 use crate::index::Index;
@@ -11,7 +17,9 @@ use at_text::words::OpWord;
 use at_value::{Obj, Op};
 
 /// The word of an operation.
-fn op_word_at(text: &mut Cursor<'_>) -> Option<OpWord> {
+fn op_word_at(text: &mut Cursor<'_>) -> Option<OpWord>
+    ensures { left result text.new ≡ choice (map (λ w. (op_word w, nothing w)) all_op_words) text.old }
+{
     for word in OpWord::ALL {
         if text.past(word.text()) {
             return Some(word);
@@ -20,123 +28,186 @@ fn op_word_at(text: &mut Cursor<'_>) -> Option<OpWord> {
     None
 }
 
-/// `#N.x V`.
-fn set_at(text: &mut Cursor<'_>, names: &Index<'_>) -> Option<Op> {
-    let (object, name) = object_attribute_at(text, names)?;
-    Some(Op::Set(object, name, value_item_at(text, names)?))
-}
-
-fn get_at(text: &mut Cursor<'_>, names: &Index<'_>) -> Option<Op> {
-    let (object, name) = object_attribute_at(text, names)?;
-    Some(Op::Get(object, name))
-}
-
-fn del_at(text: &mut Cursor<'_>, names: &Index<'_>) -> Option<Op> {
-    let (object, name) = object_attribute_at(text, names)?;
-    Some(Op::Del(object, name))
-}
-
-fn special_at(text: &mut Cursor<'_>, names: &Index<'_>) -> Option<Op> {
-    let (object, name) = object_attribute_at(text, names)?;
-    Some(Op::Special(object, name))
-}
-
-/// `C.x V`.
-fn type_set_at(text: &mut Cursor<'_>, names: &Index<'_>) -> Option<Op> {
-    let (class, name) = class_attribute_at(text, names)?;
-    Some(Op::TypeSet(class, name, value_item_at(text, names)?))
-}
-
-fn type_del_at(text: &mut Cursor<'_>, names: &Index<'_>) -> Option<Op> {
-    let (class, name) = class_attribute_at(text, names)?;
-    Some(Op::TypeDel(class, name))
-}
-
-fn type_get_at(text: &mut Cursor<'_>, names: &Index<'_>) -> Option<Op> {
-    let (class, name) = class_attribute_at(text, names)?;
-    Some(Op::TypeGet(class, name))
-}
-
-/// `C B..`.
-fn new_class_at(text: &mut Cursor<'_>, names: &Index<'_>) -> Option<Op> {
-    let class = class_at(text, names)?;
-    Some(Op::NewClass(class, bases_at(text, names)?))
-}
-
-fn set_bases_at(text: &mut Cursor<'_>, names: &Index<'_>) -> Option<Op> {
-    let class = class_at(text, names)?;
-    Some(Op::SetBases(class, bases_at(text, names)?))
-}
-
-/// `#N C`.
-fn set_class_at(text: &mut Cursor<'_>, names: &Index<'_>) -> Option<Op> {
-    let object = object_at(text)?;
-    Some(Op::SetClass(object, class_item_at(text, names)?))
-}
-
-/// `#N #M`.
-fn share_at(text: &mut Cursor<'_>) -> Option<Op> {
-    let object = object_at(text)?;
-    text.expect(b" ")?;
-    Some(Op::Share(object, object_at(text)?))
-}
-
-/// `C #N.x`.
-fn super_at(text: &mut Cursor<'_>, names: &Index<'_>) -> Option<Op> {
-    let class = class_at(text, names)?;
-    text.expect(b" ")?;
-    let (object, name) = object_attribute_at(text, names)?;
-    Some(Op::Super(class, object, name))
-}
-
 /// The second object of a section, where there is one.
-fn second_at(text: &mut Cursor<'_>) -> Option<Option<Obj>> {
+fn second_at(text: &mut Cursor<'_>) -> Option<Option<Obj>>
+    ensures { left result text.new ≡ read_lines.second_at text.old }
+{
     if text.begins_object() {
         text.expect(b" ")?;
-        Some(Some(object_at(text)?))
+        let object = object_at(text)?;
+        Some(Some(object))
     } else {
         Some(None)
     }
 }
 
-fn begin_at(text: &mut Cursor<'_>) -> Option<LineOp> {
-    let first = object_at(text)?;
-    Some(LineOp::Begin(first, second_at(text)?))
+/// `#N.x`, read.
+fn get_at(text: &mut Cursor<'_>, names: &Index<'_>) -> Option<LineOp>
+    ensures { left result text.new ≡ read_lines.op_rest names.now OpWord.Get text.old }
+{
+    let (object, name) = object_attribute_at(text, names)?;
+    Some(LineOp::Of(Op::Get(object, name)))
 }
 
-/// An operation of the data model after its word.
-fn op_rest(text: &mut Cursor<'_>, names: &Index<'_>, word: OpWord) -> Option<Op> {
-    match word {
-        OpWord::Get => get_at(text, names),
-        OpWord::Set => set_at(text, names),
-        OpWord::New => Some(Op::New(class_at(text, names)?)),
-        OpWord::Put => type_set_at(text, names),
-        OpWord::Class => new_class_at(text, names),
-        OpWord::Cget => type_get_at(text, names),
-        OpWord::Del => del_at(text, names),
-        OpWord::Special => special_at(text, names),
-        OpWord::Super => super_at(text, names),
-        OpWord::ClassOf => Some(Op::ClassOf(object_at(text)?)),
-        OpWord::Mro => Some(Op::Mro(class_at(text, names)?)),
-        OpWord::Cut => type_del_at(text, names),
-        OpWord::Bases => set_bases_at(text, names),
-        OpWord::Turn => set_class_at(text, names),
-        OpWord::Share => share_at(text),
-        OpWord::Begin | OpWord::Finish => None,
-    }
+/// `#N.x V`.
+fn set_at(text: &mut Cursor<'_>, names: &Index<'_>) -> Option<LineOp>
+    ensures { left result text.new ≡ read_lines.op_rest names.now OpWord.Set text.old }
+{
+    let (object, name) = object_attribute_at(text, names)?;
+    let value = value_item_at(text, names)?;
+    Some(LineOp::Of(Op::Set(object, name, value)))
+}
+
+/// `#N.x`, deleted.
+fn del_at(text: &mut Cursor<'_>, names: &Index<'_>) -> Option<LineOp>
+    ensures { left result text.new ≡ read_lines.op_rest names.now OpWord.Del text.old }
+{
+    let (object, name) = object_attribute_at(text, names)?;
+    Some(LineOp::Of(Op::Del(object, name)))
+}
+
+/// `#N.x`, read by the class alone.
+fn special_at(text: &mut Cursor<'_>, names: &Index<'_>) -> Option<LineOp>
+    ensures { left result text.new ≡ read_lines.op_rest names.now OpWord.Special text.old }
+{
+    let (object, name) = object_attribute_at(text, names)?;
+    Some(LineOp::Of(Op::Special(object, name)))
+}
+
+/// `C.x V`.
+fn put_at(text: &mut Cursor<'_>, names: &Index<'_>) -> Option<LineOp>
+    ensures { left result text.new ≡ read_lines.op_rest names.now OpWord.Put text.old }
+{
+    let (class, name) = class_attribute_at(text, names)?;
+    let value = value_item_at(text, names)?;
+    Some(LineOp::Of(Op::TypeSet(class, name, value)))
+}
+
+/// `C.x`, removed.
+fn cut_at(text: &mut Cursor<'_>, names: &Index<'_>) -> Option<LineOp>
+    ensures { left result text.new ≡ read_lines.op_rest names.now OpWord.Cut text.old }
+{
+    let (class, name) = class_attribute_at(text, names)?;
+    Some(LineOp::Of(Op::TypeDel(class, name)))
+}
+
+/// `C.x`, read.
+fn cget_at(text: &mut Cursor<'_>, names: &Index<'_>) -> Option<LineOp>
+    ensures { left result text.new ≡ read_lines.op_rest names.now OpWord.Cget text.old }
+{
+    let (class, name) = class_attribute_at(text, names)?;
+    Some(LineOp::Of(Op::TypeGet(class, name)))
+}
+
+/// `C`.
+fn new_at(text: &mut Cursor<'_>, names: &Index<'_>) -> Option<LineOp>
+    ensures { left result text.new ≡ read_lines.op_rest names.now OpWord.New text.old }
+{
+    let class = class_at(text, names)?;
+    Some(LineOp::Of(Op::New(class)))
+}
+
+/// `C`, whose order is read.
+fn mro_at(text: &mut Cursor<'_>, names: &Index<'_>) -> Option<LineOp>
+    ensures { left result text.new ≡ read_lines.op_rest names.now OpWord.Mro text.old }
+{
+    let class = class_at(text, names)?;
+    Some(LineOp::Of(Op::Mro(class)))
+}
+
+/// `C B..`.
+fn class_at(text: &mut Cursor<'_>, names: &Index<'_>) -> Option<LineOp>
+    ensures { left result text.new ≡ read_lines.op_rest names.now OpWord.Class text.old }
+{
+    let class = class_at(text, names)?;
+    let bases = bases_at(text, names)?;
+    Some(LineOp::Of(Op::NewClass(class, bases)))
+}
+
+/// `C B..`, of a class that is there.
+fn bases_at(text: &mut Cursor<'_>, names: &Index<'_>) -> Option<LineOp>
+    ensures { left result text.new ≡ read_lines.op_rest names.now OpWord.Bases text.old }
+{
+    let class = class_at(text, names)?;
+    let bases = bases_at(text, names)?;
+    Some(LineOp::Of(Op::SetBases(class, bases)))
+}
+
+/// `#N C`.
+fn turn_at(text: &mut Cursor<'_>, names: &Index<'_>) -> Option<LineOp>
+    ensures { left result text.new ≡ read_lines.op_rest names.now OpWord.Turn text.old }
+{
+    let object = object_at(text)?;
+    let class = class_item_at(text, names)?;
+    Some(LineOp::Of(Op::SetClass(object, class)))
+}
+
+/// `#N #M`.
+fn share_at(text: &mut Cursor<'_>) -> Option<LineOp>
+    ensures { (s : ScriptParts) → left result text.new ≡ read_lines.op_rest s OpWord.Share text.old }
+{
+    let object = object_at(text)?;
+    text.expect(b" ")?;
+    let other = object_at(text)?;
+    Some(LineOp::Of(Op::Share(object, other)))
+}
+
+/// `C #N.x`.
+fn super_at(text: &mut Cursor<'_>, names: &Index<'_>) -> Option<LineOp>
+    ensures { left result text.new ≡ read_lines.op_rest names.now OpWord.Super text.old }
+{
+    let class = class_at(text, names)?;
+    text.expect(b" ")?;
+    let (object, name) = object_attribute_at(text, names)?;
+    Some(LineOp::Of(Op::Super(class, object, name)))
+}
+
+/// `#N`.
+fn classof_at(text: &mut Cursor<'_>) -> Option<LineOp>
+    ensures { (s : ScriptParts) → left result text.new ≡ read_lines.op_rest s OpWord.ClassOf text.old }
+{
+    let object = object_at(text)?;
+    Some(LineOp::Of(Op::ClassOf(object)))
+}
+
+/// `#N` or `#N #M`.
+fn begin_at(text: &mut Cursor<'_>) -> Option<LineOp>
+    ensures { (s : ScriptParts) → left result text.new ≡ read_lines.op_rest s OpWord.Begin text.old }
+{
+    let first = object_at(text)?;
+    let second = second_at(text)?;
+    Some(LineOp::Begin(first, second))
 }
 
 /// The operation of a line after its word.
-fn line_op_rest(text: &mut Cursor<'_>, names: &Index<'_>, word: OpWord) -> Option<LineOp> {
+fn op_rest(text: &mut Cursor<'_>, names: &Index<'_>, word: OpWord) -> Option<LineOp>
+    ensures { left result text.new ≡ read_lines.op_rest names.now word text.old }
+{
     match word {
+        OpWord::Get => get_at(text, names),
+        OpWord::Set => set_at(text, names),
+        OpWord::New => new_at(text, names),
+        OpWord::Put => put_at(text, names),
+        OpWord::Class => class_at(text, names),
+        OpWord::Cget => cget_at(text, names),
+        OpWord::Del => del_at(text, names),
+        OpWord::Special => special_at(text, names),
+        OpWord::Super => super_at(text, names),
+        OpWord::ClassOf => classof_at(text),
+        OpWord::Mro => mro_at(text, names),
+        OpWord::Cut => cut_at(text, names),
+        OpWord::Bases => bases_at(text, names),
+        OpWord::Turn => turn_at(text, names),
+        OpWord::Share => share_at(text),
         OpWord::Begin => begin_at(text),
         OpWord::Finish => Some(LineOp::Finish),
-        _ => Some(LineOp::Of(op_rest(text, names, word)?)),
     }
 }
 
 /// The operation of a line.
-pub fn line_op_at(text: &mut Cursor<'_>, names: &Index<'_>) -> Option<LineOp> {
+pub fn line_op_at(text: &mut Cursor<'_>, names: &Index<'_>) -> Option<LineOp>
+    ensures { left result text.new ≡ read_lines.line_op_at names.now text.old }
+{
     let word = op_word_at(text)?;
-    line_op_rest(text, names, word)
+    op_rest(text, names, word)
 }

@@ -1,4 +1,12 @@
 //! Reading replies.
+ghost use Rattle.std.specs.Prelude.{◌≡◌, ◌≢◌, ◌^◌, map};
+ghost use Rattle.at_text.specs.Readers.{nothing, choice};
+ghost use Rattle.at_text.specs.Lines.{hook_word};
+ghost use Rattle.at_text.specs.ReadValues as read_values;
+ghost use Rattle.at_text.specs.ReadLines as read_lines;
+ghost use Rattle.at_text.specs.Tables.{reply_word, all_reply_words};
+ghost use Rattle.at_script.specs.Parts.{ScriptParts};
+ghost use Rattle.at_back.specs.Left.{left, found, IfTold};
 
 use crate::cursor::Cursor;
 use crate::fault::{PieceFault, there};
@@ -14,7 +22,9 @@ use std::alloc::Global;
 const SHORT: u64 = 1 << 32;
 
 /// The word of a reply.
-fn reply_word_at(text: &mut Cursor<'_>) -> Option<ReplyWord> {
+fn reply_word_at(text: &mut Cursor<'_>) -> Option<ReplyWord>
+    ensures { left result text.new ≡ choice (map (λ w. (reply_word w, nothing w)) all_reply_words) text.old }
+{
     for word in ReplyWord::ALL {
         if text.past(word.text()) {
             return Some(word);
@@ -23,7 +33,9 @@ fn reply_word_at(text: &mut Cursor<'_>) -> Option<ReplyWord> {
     None
 }
 
-fn hook_kind_at(text: &mut Cursor<'_>) -> Option<HookKind> {
+fn hook_kind_at(text: &mut Cursor<'_>) -> Option<HookKind>
+    ensures { left result text.new ≡ read_lines.hook_at text.old }
+{
     for kind in HOOKS {
         if text.past(hook_text(kind)) {
             return Some(kind);
@@ -32,34 +44,67 @@ fn hook_kind_at(text: &mut Cursor<'_>) -> Option<HookKind> {
     None
 }
 
+fn value_reply_at(text: &mut Cursor<'_>, names: &Index<'_>) -> Option<LineReply>
+    ensures { left result text.new ≡ read_lines.reply_rest names.now ReplyWord.Value text.old }
+{
+    let value = value_at(text, names)?;
+    Some(LineReply::Of(Reply::Value(value)))
+}
+
 /// A hook: its kind, callee, receiver, other argument and value.
-fn hook_at(text: &mut Cursor<'_>, names: &Index<'_>) -> Option<Reply> {
+fn hook_reply_at(text: &mut Cursor<'_>, names: &Index<'_>) -> Option<LineReply>
+    ensures { left result text.new ≡ read_lines.reply_rest names.now ReplyWord.Hook text.old }
+{
     let kind = hook_kind_at(text)?;
     let callee = value_item_at(text, names)?;
     let receiver = value_item_at(text, names)?;
     let other = value_item_at(text, names)?;
     let value = value_item_at(text, names)?;
-    Some(Reply::Hook(kind, callee, receiver, other, value))
+    Some(LineReply::Of(Reply::Hook(kind, callee, receiver, other, value)))
 }
 
-fn method_at(text: &mut Cursor<'_>, names: &Index<'_>) -> Option<Reply> {
+fn method_at(text: &mut Cursor<'_>, names: &Index<'_>) -> Option<LineReply>
+    ensures { left result text.new ≡ read_lines.reply_rest names.now ReplyWord.Method text.old }
+{
     let func = func_at(text, names)?;
-    Some(Reply::Method(func, value_item_at(text, names)?))
+    let first = value_item_at(text, names)?;
+    Some(LineReply::Of(Reply::Method(func, first)))
 }
 
 /// What `__init__` is in the class of a new object, where it is there.
-fn init_at(text: &mut Cursor<'_>, names: &Index<'_>) -> Option<Option<Value>> {
+fn init_at(text: &mut Cursor<'_>, names: &Index<'_>) -> Option<Option<Value>>
+    ensures { left result text.new ≡ read_lines.init_at names.now text.old }
+{
     if text.begins_with(b' ') {
         text.expect(INIT)?;
-        Some(Some(value_at(text, names)?))
+        let init = value_at(text, names)?;
+        Some(Some(init))
     } else {
         Some(None)
     }
 }
 
-fn made_at(text: &mut Cursor<'_>, names: &Index<'_>) -> Option<Reply> {
+fn made_at(text: &mut Cursor<'_>, names: &Index<'_>) -> Option<LineReply>
+    ensures { left result text.new ≡ read_lines.reply_rest names.now ReplyWord.Made text.old }
+{
     let object = object_at(text)?;
-    Some(Reply::Made(object, init_at(text, names)?))
+    let init = init_at(text, names)?;
+    Some(LineReply::Of(Reply::Made(object, init)))
+}
+
+fn no_order_at(text: &mut Cursor<'_>, names: &Index<'_>) -> Option<LineReply>
+    ensures { left result text.new ≡ read_lines.reply_rest names.now ReplyWord.NoOrder text.old }
+{
+    let class = class_at(text, names)?;
+    Some(LineReply::Of(Reply::NoOrder(class)))
+}
+
+/// How many times a section was given back.
+fn suspended_at(text: &mut Cursor<'_>) -> Option<LineReply>
+    ensures { (s : ScriptParts) → left result text.new ≡ read_lines.reply_rest s ReplyWord.Suspended text.old }
+{
+    let times = text.number(SHORT)?;
+    Some(LineReply::Suspended(times as u32))
 }
 
 /// Classes, each with a blank before it.
@@ -67,7 +112,9 @@ pub fn classes_at(
     alloc: Global,
     text: &mut Cursor<'_>,
     names: &Index<'_>,
-) -> Result<ClassList, PieceFault> {
+) -> Result<ClassList, PieceFault>
+    ensures { IfTold result (left (found result) text.new ≡ read_values.classes_at names.now text.old) }
+{
     let mut classes = Vec::new(alloc);
     while text.begins_item() {
         let class = there(class_item_at(text, names))?;
@@ -76,47 +123,61 @@ pub fn classes_at(
     Ok(ClassList::copy_of(alloc, &classes)?)
 }
 
-fn suspended_at(text: &mut Cursor<'_>) -> Option<LineReply> {
-    Some(LineReply::Suspended(text.number(SHORT)? as u32))
+/// The order of a class.
+fn order_at(
+    alloc: Global,
+    text: &mut Cursor<'_>,
+    names: &Index<'_>,
+) -> Result<LineReply, PieceFault>
+    ensures { IfTold result (left (found result) text.new ≡
+        read_lines.reply_rest names.now ReplyWord.Order text.old) }
+{
+    let order = classes_at(alloc, text, names)?;
+    Ok(LineReply::Of(Reply::Order(order)))
 }
 
-/// A reply of the data model after its word, but for an order.
-fn reply_rest(text: &mut Cursor<'_>, names: &Index<'_>, word: ReplyWord) -> Option<Reply> {
+/// A reply after its word, which isn't that of an order.
+fn plain_rest(text: &mut Cursor<'_>, names: &Index<'_>, word: ReplyWord) -> Option<LineReply>
+    requires { word ≢ ReplyWord.Order }
+    ensures { left result text.new ≡ read_lines.reply_rest names.now word text.old }
+{
     match word {
-        ReplyWord::Value => Some(Reply::Value(value_at(text, names)?)),
-        ReplyWord::Done => Some(Reply::Done),
-        ReplyWord::NoAttr => Some(Reply::NoAttr),
+        ReplyWord::Value => value_reply_at(text, names),
+        ReplyWord::Done => Some(LineReply::Of(Reply::Done)),
+        ReplyWord::NoAttr => Some(LineReply::Of(Reply::NoAttr)),
         ReplyWord::Method => method_at(text, names),
         ReplyWord::Made => made_at(text, names),
-        ReplyWord::Hook => hook_at(text, names),
-        ReplyWord::NoGetter => Some(Reply::NoGetter),
-        ReplyWord::NoSetter => Some(Reply::NoSetter),
-        ReplyWord::NoDeleter => Some(Reply::NoDeleter),
-        ReplyWord::NoClass => Some(Reply::NoClass),
-        ReplyWord::NameTaken => Some(Reply::NameTaken),
-        ReplyWord::EmptyBases => Some(Reply::EmptyBases),
-        ReplyWord::Duplicate => Some(Reply::Duplicate),
-        ReplyWord::Cycle => Some(Reply::Cycle),
-        ReplyWord::NoOrder => Some(Reply::NoOrder(class_at(text, names)?)),
-        ReplyWord::Immutable => Some(Reply::Immutable),
-        ReplyWord::NotSubclass => Some(Reply::NotSubclass),
-        ReplyWord::Full => Some(Reply::Full),
-        ReplyWord::Order | ReplyWord::Kept | ReplyWord::Suspended => None,
+        ReplyWord::Hook => hook_reply_at(text, names),
+        ReplyWord::Kept => Some(LineReply::Kept),
+        ReplyWord::Suspended => suspended_at(text),
+        ReplyWord::NoGetter => Some(LineReply::Of(Reply::NoGetter)),
+        ReplyWord::NoSetter => Some(LineReply::Of(Reply::NoSetter)),
+        ReplyWord::NoDeleter => Some(LineReply::Of(Reply::NoDeleter)),
+        ReplyWord::NoClass => Some(LineReply::Of(Reply::NoClass)),
+        ReplyWord::NameTaken => Some(LineReply::Of(Reply::NameTaken)),
+        ReplyWord::EmptyBases => Some(LineReply::Of(Reply::EmptyBases)),
+        ReplyWord::Duplicate => Some(LineReply::Of(Reply::Duplicate)),
+        ReplyWord::Cycle => Some(LineReply::Of(Reply::Cycle)),
+        ReplyWord::NoOrder => no_order_at(text, names),
+        ReplyWord::Immutable => Some(LineReply::Of(Reply::Immutable)),
+        ReplyWord::NotSubclass => Some(LineReply::Of(Reply::NotSubclass)),
+        ReplyWord::Full => Some(LineReply::Of(Reply::Full)),
+        ReplyWord::Order => None,
     }
 }
 
-/// The reply of a line after its word.
-fn line_reply_rest(
+/// A reply after its word.
+fn reply_rest(
     alloc: Global,
     text: &mut Cursor<'_>,
     names: &Index<'_>,
     word: ReplyWord,
-) -> Result<LineReply, PieceFault> {
+) -> Result<LineReply, PieceFault>
+    ensures { IfTold result (left (found result) text.new ≡ read_lines.reply_rest names.now word text.old) }
+{
     match word {
-        ReplyWord::Order => Ok(LineReply::Of(Reply::Order(classes_at(alloc, text, names)?))),
-        ReplyWord::Kept => Ok(LineReply::Kept),
-        ReplyWord::Suspended => there(suspended_at(text)),
-        _ => Ok(LineReply::Of(there(reply_rest(text, names, word))?)),
+        ReplyWord::Order => order_at(alloc, text, names),
+        _ => there(plain_rest(text, names, word)),
     }
 }
 
@@ -125,7 +186,9 @@ pub fn line_reply_at(
     alloc: Global,
     text: &mut Cursor<'_>,
     names: &Index<'_>,
-) -> Result<LineReply, PieceFault> {
+) -> Result<LineReply, PieceFault>
+    ensures { IfTold result (left (found result) text.new ≡ read_lines.line_reply_at names.now text.old) }
+{
     let word = there(reply_word_at(text))?;
-    line_reply_rest(alloc, text, names, word)
+    reply_rest(alloc, text, names, word)
 }

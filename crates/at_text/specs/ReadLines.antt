@@ -136,16 +136,27 @@ thread_at =
 abbrev pub did : ((ℕ × Path) × LineOp) × LineReply → What
 did p = whats.Did (record { 0 = p.0.0.0 }) p.0.0.1 p.0.1 p.1
 
--- place, path, operation and reply, or a local word
+-- place, path and operation
+unfoldable pub done_at : ScriptParts → Reader ((ℕ × Path) × LineOp)
+done_at s = before (both (both (number_at (2 ^ 64)) path_item_at) (line_op_at s)) (codes " = ")
+
+-- place, path, operation and reply
+unfoldable pub did_at : ScriptParts → Reader What
+did_at s = made did (both (done_at s) (line_reply_at s))
+
+-- what a line says that is no operation
+unfoldable pub local_what_at : ScriptParts → Reader What
+local_what_at s = after (codes "- local ") (made whats.Local (local_at s))
+
 unfoldable pub what_at : ScriptParts → Reader What
-what_at s = λ text.
-    if begins_run text
-    then made did (both (before (both (both (number_at (2 ^ 64)) path_item_at) (line_op_at s)) (codes " = ")) (line_reply_at s)) text
-    else after (codes "- local ") (made whats.Local (local_at s)) text
+what_at s = λ text. if begins_run text then did_at s text else local_what_at s text
+
+-- the thread and the number of a line
+unfoldable pub front_at : Reader (ℕ × ℕ)
+front_at = before (both (before thread_at (codes " ")) (number_at (2 ^ 32))) (codes " ")
 
 abbrev pub line_of : (ℕ × ℕ) × What → Line
 line_of p = record { what = p.1; number = p.0.1; thread = p.0.0 }
 
 unfoldable pub line_at : ScriptParts → Reader Line
-line_at s =
-    made line_of (before (both (before (both (before thread_at (codes " ")) (number_at (2 ^ 32))) (codes " ")) (what_at s)) (codes "\n"))
+line_at s = made line_of (before (both front_at (what_at s)) (codes "\n"))

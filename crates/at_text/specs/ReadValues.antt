@@ -76,24 +76,42 @@ named (Some f) class = Some (Func f)
 named None (Some c) = Some (Class c)
 named None None = None
 
+-- a number from 0 on
+abbrev pub integer_of : List ℕ → Option value.Value
+integer_of word = option_map (λ n. Int (pos n)) (number_below (2 ^ 31) word)
+
 -- `none`, a number from 0 on, a function or a class
 abbrev pub worded : ScriptParts → List ℕ → Option value.Value
 worded s word =
     if bytes_eq word words.none_word
     then Some Nothing
     else if list_all is_digit word
-    then option_map (λ n. Int (pos n)) (number_below (2 ^ 31) word)
+    then integer_of word
     else named (place_of word s.funcs) (place_of word s.classes)
+
+-- a text, after its first double quote
+abbrev pub quoted_at : ScriptParts → Reader value.Value
+quoted_at s = before (made Text (name_at s.names)) (codes "\"")
+
+-- an object, after its `#`
+abbrev pub numbered_object_at : Reader value.Value
+numbered_object_at = made Obj (number_at widths.objects)
+
+abbrev pub static_at : ScriptParts → Reader value.Value
+static_at s = made Static (name_at s.funcs)
+
+abbrev pub classm_at : ScriptParts → Reader value.Value
+classm_at s = made ClassM (name_at s.funcs)
 
 -- values that begin with a byte that no name has
 abbrev pub marked_rows : ScriptParts → List (Row value.Value)
 marked_rows s =
-    (codes "\"", before (made Text (name_at s.names)) (codes "\"")) ∷ (codes "#", made Obj (number_at widths.objects)) ∷ (codes "-", negative_at) ∷ []
+    (codes "\"", quoted_at s) ∷ (codes "#", numbered_object_at) ∷ (codes "-", negative_at) ∷ []
 
 -- functions that are wrapped
 abbrev pub wrapped_rows : ScriptParts → List (Row value.Value)
 wrapped_rows s =
-    (words.static_word, made Static (name_at s.funcs)) ∷ (words.classm_word, made ClassM (name_at s.funcs)) ∷ (words.prop_word, made Prop (property_at s))
+    (words.static_word, static_at s) ∷ (words.classm_word, classm_at s) ∷ (words.prop_word, made Prop (property_at s))
     ∷ []
 
 unfoldable pub value_at : ScriptParts → Reader value.Value
