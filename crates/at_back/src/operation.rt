@@ -116,7 +116,7 @@ fn mro_at(text: &mut Cursor<'_>, names: &Index<'_>) -> Option<LineOp>
 }
 
 /// `C B..`.
-fn class_at(text: &mut Cursor<'_>, names: &Index<'_>) -> Option<LineOp>
+fn new_class_at(text: &mut Cursor<'_>, names: &Index<'_>) -> Option<LineOp>
     ensures { left result text.new ≡ read_lines.op_rest names.now OpWord.Class text.old }
 {
     let class = class_at(text, names)?;
@@ -125,7 +125,7 @@ fn class_at(text: &mut Cursor<'_>, names: &Index<'_>) -> Option<LineOp>
 }
 
 /// `C B..`, of a class that is there.
-fn bases_at(text: &mut Cursor<'_>, names: &Index<'_>) -> Option<LineOp>
+fn set_bases_at(text: &mut Cursor<'_>, names: &Index<'_>) -> Option<LineOp>
     ensures { left result text.new ≡ read_lines.op_rest names.now OpWord.Bases text.old }
 {
     let class = class_at(text, names)?;
@@ -188,7 +188,7 @@ fn op_rest(text: &mut Cursor<'_>, names: &Index<'_>, word: OpWord) -> Option<Lin
         OpWord::Set => set_at(text, names),
         OpWord::New => new_at(text, names),
         OpWord::Put => put_at(text, names),
-        OpWord::Class => class_at(text, names),
+        OpWord::Class => new_class_at(text, names),
         OpWord::Cget => cget_at(text, names),
         OpWord::Del => del_at(text, names),
         OpWord::Special => special_at(text, names),
@@ -196,7 +196,7 @@ fn op_rest(text: &mut Cursor<'_>, names: &Index<'_>, word: OpWord) -> Option<Lin
         OpWord::ClassOf => classof_at(text),
         OpWord::Mro => mro_at(text, names),
         OpWord::Cut => cut_at(text, names),
-        OpWord::Bases => bases_at(text, names),
+        OpWord::Bases => set_bases_at(text, names),
         OpWord::Turn => turn_at(text, names),
         OpWord::Share => share_at(text),
         OpWord::Begin => begin_at(text),

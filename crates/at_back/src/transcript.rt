@@ -1,4 +1,6 @@
 //! Reading a whole transcript.
+ghost use Rattle.std.specs.Prelude.{ℕ, ◌≡◌, ◌<◌, ◌-◌, ◌^◌, length, IfOk};
+ghost use Rattle.at_back.specs.Transcripts.{IsTranscriptOf, IsFormLine};
 
 use crate::cursor::Cursor;
 use crate::fault::{PieceFault, TextFault, there};
@@ -61,11 +63,22 @@ fn count_at(text: &mut Cursor<'_>) -> Option<u64> {
     Some(count)
 }
 
+/// So many bytes, where they are there.
+fn taken<'t>(text: &mut Cursor<'t>, count: usize) -> Option<&'t [u8]> {
+    let rest = text.rest();
+    if count > rest.len() {
+        return None;
+    }
+    let (taken, after) = rest.split_at(count);
+    *text = Cursor::new(after);
+    Some(taken)
+}
+
 /// The second line: `script N`, the N bytes of the script, and a newline.
 fn script_at<'t>(text: &mut Cursor<'t>) -> Option<&'t [u8]> {
     text.expect(SCRIPT)?;
     let count = count_at(text)?;
-    let bytes = text.take(count as usize)?;
+    let bytes = taken(text, count as usize)?;
     text.expect(b"\n")?;
     Some(bytes)
 }
@@ -231,7 +244,15 @@ impl<'t> Reader<'t> {
 }
 
 /// Reads the text of a transcript.
-pub fn read(alloc: Global, bytes: &[u8]) -> Result<Transcript, TextFault> {
+///
+/// The text doesn't have the numbers that a miss carries: each of them is 0. Another text is refused with the first line
+/// with which it is the prefix of no transcript or, where it only ends too soon, with the line in which it ends. The
+/// bytes of the script and the newline after them belong to line 2.
+pub fn read(alloc: Global, bytes: &[u8]) -> Result<Transcript, TextFault>
+    requires { length bytes.now < 2 ^ 32 - 1 }
+    ensures ok { IfOk result (λ t. IsTranscriptOf bytes.now t.bytes t.script t.run) }
+    ensures form { (line : ℕ) → result ≡ Err (TextFault.Form line) → IsFormLine bytes.now line }
+{
     let mut reader = Reader {
         alloc,
         text: Cursor::new(bytes),
