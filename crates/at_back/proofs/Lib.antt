@@ -1,0 +1,6 @@
+pub mod Runs
+pub mod Numbers
+pub mod Choices
+pub mod Prefixes
+pub mod Gives
+pub mod Pieces

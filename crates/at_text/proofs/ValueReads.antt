@@ -154,7 +154,7 @@ module _ (s : ScriptParts) (told : IsTold s) where
   value_reads (Int (negsuc n)) h = record {
     here = λ x f. (made_reads (λ m. Int (negated m)) (positive_reads (2 ^ 31 + 1) (suc n) (omega arith) (omega arith) (omega arith))).here x (breaks-end x f);
   }
-  value_reads (Text x) h = record { here = λ y f. (before_reads (codes "\"") (λ z. refl) (made_reads Text (name_reads s.names x (told.names x h)))).here y tt }
+  value_reads (Text x) h = record { here = λ y f. (made_reads Text (before_reads (codes "\"") (λ z. refl) (name_reads s.names x (told.names x h)))).here y tt }
   value_reads (Func f) h =
       named_reads (text_at s.funcs f) (Func f) (told.funcs f h).form (told.no_func f h) (ap (λ o. named o (place_of (text_at s.funcs f) s.classes)) (told.funcs f h).place)
   value_reads (Prop p) h = record { here = λ x f. (made_reads Prop (property_reads p h)).here x (breaks-end x f) }

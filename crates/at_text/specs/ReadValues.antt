@@ -91,7 +91,7 @@ worded s word =
 
 -- a text, after its first double quote
 abbrev pub quoted_at : ScriptParts → Reader value.Value
-quoted_at s = before (made Text (name_at s.names)) (codes "\"")
+quoted_at s = made Text (before (name_at s.names) (codes "\""))
 
 -- an object, after its `#`
 abbrev pub numbered_object_at : Reader value.Value

@@ -1,0 +1,45 @@
+-- Words of a table that are looked for one after another.
+use Rattle.std.proofs.Common.{◌≡◌, ◌∙◌, ap, refl, sym, ℕ, zero, suc, ◌+◌, ◌<◌, ◌≤◌, arith, List, [], ◌∷◌, length, drop, map, slice_get, Option, Some, None}
+use Rattle.std.specs.Option.{option_map}
+use Rattle.at_script.specs.Literals.{◌>>=◌}
+use Rattle.at_text.specs.Readers.{Reader, Row, nothing, past, chosen, choice}
+
+-- the rows of words that stand alone
+abbrev pub alone : {W : Type 0} → (W → List ℕ) → List W → List (Row W)
+alone word ws = map (λ w. (word w, nothing w)) ws
+
+module _ {W A : Type 0} where
+  -- the word first, and then what follows it
+  pub choice_then : (word : W → List ℕ) (rest : W → Reader A) (ws : List W) (text : List ℕ)
+      → (choice (alone word ws) text >>= (λ found. rest found.0 found.1)) ≡ choice (map (λ w. (word w, rest w)) ws) text
+  unfolding nothing
+  choice_then word rest [] text = refl
+  choice_then word rest (w ∷ ws) text =
+      elim (past (word w) text) as (λ o. (chosen o (nothing w) (choice (alone word ws) text) >>= (λ found. rest found.0 found.1)) ≡ chosen o (rest w) (choice (map (λ v. (word v, rest v)) ws) text)) [
+        | None ↦ choice_then word rest ws text
+        | Some t ↦ refl
+      ]
+
+module _ {W : Type 0} (word : W → List ℕ) where
+  -- the word at this place stands at the front
+  pub word_here : (ws : List W) (i : ℕ) (w : W) (text left : List ℕ) → slice_get ws i ≡ Some w → past (word w) text ≡ Some left → choice (alone word (drop i ws)) text ≡ Some (w, left)
+  unfolding nothing
+  word_here [] i w text left at h = cc
+  word_here (v ∷ ws) zero w text left at h =
+      let same : v ≡ w = cc in
+      ap (λ u. chosen (past (word u) text) (nothing u) (choice (alone word ws) text)) same ∙ ap (λ o. chosen o (nothing w) (choice (alone word ws) text)) h
+  word_here (v ∷ ws) (suc i) w text left at h = word_here ws i w text left at h
+
+  -- it doesn't
+  pub word_not_here : (ws : List W) (i : ℕ) (w : W) (text : List ℕ) → slice_get ws i ≡ Some w → past (word w) text ≡ None → choice (alone word (drop i ws)) text ≡ choice (alone word (drop (suc i) ws)) text
+  word_not_here [] i w text at h = cc
+  word_not_here (v ∷ ws) zero w text at h =
+      let same : v ≡ w = cc in
+      ap (λ u. chosen (past (word u) text) (nothing u) (choice (alone word ws) text)) same ∙ ap (λ o. chosen o (nothing w) (choice (alone word ws) text)) h
+  word_not_here (v ∷ ws) (suc i) w text at h = word_not_here ws i w text at h
+
+  pub no_word : (ws : List W) (i : ℕ) (text : List ℕ) → length ws ≤ i → choice (alone word (drop i ws)) text ≡ None
+  no_word [] zero text h = refl
+  no_word [] (suc i) text h = refl
+  no_word (v ∷ ws) zero text h = absurd (omega arith)
+  no_word (v ∷ ws) (suc i) text h = no_word ws i text (omega arith)
