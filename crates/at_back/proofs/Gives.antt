@@ -144,6 +144,25 @@ module _ {A : Type 0} (text : A → List ℕ) (Has : A → Type 0) where
         ] refl h;
   }
 
+  -- the same text in other words
+  pub retext_gives : {r : Reader A} {text' : A → List ℕ} {Has' : A → Type 0} → ((a : A) → Has' a → (text' a ≡ text a) × Has a) → Gives r text' Has' → Gives r text Has
+  retext_gives same g = record {
+    there = λ t p h.
+        let k = g.there t p h in
+        let e = same p.0 k.1 in
+        (k.0 ∙ ap (λ l. l ++ p.1) e.0, e.1);
+  }
+
+module _ {W A : Type 0} (text : A → List ℕ) (Has : A → Type 0) (word : W → List ℕ) (rest : W → Reader A) where
+  table_rows : ((w : W) → Gives (after (word w) (rest w)) text Has) → (ws : List W) → AllByRecursion (RowGives text Has) (map (λ w. (word w, rest w)) ws)
+  unfolding RowGives
+  table_rows each [] = tt
+  table_rows each (w ∷ ws) = (each w, table_rows each ws)
+
+  -- a table of words, each with what follows it
+  pub table_gives : ((w : W) → Gives (after (word w) (rest w)) text Has) → (ws : List W) → Gives (choice (map (λ w. (word w, rest w)) ws)) text Has
+  table_gives each ws = choice_gives text Has (map (λ w. (word w, rest w)) ws) (table_rows each ws)
+
 -- Names and numbers
 
 pub run_split : (t : List ℕ) → t ≡ run t ++ past_run t

@@ -4,3 +4,5 @@ pub mod Choices
 pub mod Prefixes
 pub mod Gives
 pub mod Pieces
+pub mod LinesGive
+pub mod Indexed

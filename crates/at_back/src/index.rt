@@ -28,15 +28,15 @@ pub struct Index<'s> {
 }
 
 impl<'s> Model for Index<'s> {
-    ghost use Rattle.std.specs.Prelude.{◌≡◌};
     ghost use Rattle.at_script.specs.Parts.{ScriptParts};
 
     ghost Value = { ScriptParts };
 
     ghost view = { λ i. i.script.now };
 
-    ghost invariant = { λ i. (i.names ≡ i.script.now.names) × (i.classes ≡ i.script.now.classes)
-        × (i.funcs ≡ i.script.now.funcs) × (i.vars ≡ i.script.now.vars) };
+    ghost use Rattle.at_back.specs.Indexing.{AreIndexed};
+
+    ghost invariant = { λ i. AreIndexed i.script.now i.names i.classes i.funcs i.vars };
 }
 
 impl<'s> Index<'s> {
