@@ -6,3 +6,4 @@ pub mod Gives
 pub mod Pieces
 pub mod LinesGive
 pub mod Indexed
+pub mod Exact

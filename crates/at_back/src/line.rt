@@ -1,10 +1,11 @@
 //! Reading lines.
-ghost use Rattle.std.specs.Prelude.{◌≡◌, ◌^◌, map, codes};
-ghost use Rattle.at_text.specs.Readers.{nothing, choice, before, both, number_at};
+ghost use Rattle.std.specs.Prelude.{◌≡◌, ◌^◌, map, IfOk, Err};
+ghost use Rattle.at_text.specs.Readers.{nothing, choice, number_at};
 ghost use Rattle.at_text.specs.ReadLines as read_lines;
 ghost use Rattle.at_text.specs.Tables.{local_word, all_local_words};
 ghost use Rattle.at_script.specs.Parts.{ScriptParts};
 ghost use Rattle.at_back.specs.Left.{left, found, IfTold};
+ghost use Rattle.at_back.specs.Told.{IsAtFront, HasNoneAtFront};
 
 use crate::cursor::Cursor;
 use crate::fault::{PieceFault, there};
@@ -160,8 +161,7 @@ fn front_at(text: &mut Cursor<'_>) -> Option<(u8, u32)>
     Some((thread, number as u32))
 }
 
-/// A line.
-pub fn line_at(
+fn line_found(
     alloc: Global,
     text: &mut Cursor<'_>,
     names: &Index<'_>,
@@ -176,4 +176,19 @@ pub fn line_at(
         number,
         thread,
     })
+}
+
+/// Reads a line, with the newline that ends it. What a miss carries isn't in the text, and each number of it is 0.
+pub fn line_at(
+    alloc: Global,
+    text: &mut Cursor<'_>,
+    names: &Index<'_>,
+) -> Result<Line, PieceFault>
+    // The text of the line stands at the front, and what follows it is left.
+    ensures told { IfOk result (λ line. IsAtFront names.now text.old line text.new) }
+
+    // No line stands there.
+    ensures wrong { result ≡ Err PieceFault.Wrong → HasNoneAtFront names.now text.old }
+{
+    line_found(alloc, text, names)
 }
