@@ -7,3 +7,4 @@ pub mod Pieces
 pub mod LinesGive
 pub mod Indexed
 pub mod Exact
+pub mod Items
