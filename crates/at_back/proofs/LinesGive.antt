@@ -193,18 +193,37 @@ IsBare way = bare_path way ≡ way
 path_item_gives : Gives path_item_at path_item IsBare
 unfolding path_item_at RowGives
 path_item_gives =
-    choice_gives path_item IsBare _
-    (way paths.Locked refl,
-    (way paths.Fast refl,
-    (way (paths.Slow (misses.Untagged 0)) refl,
-    (way (paths.Slow (misses.Unlike 0)) refl,
-    (way (paths.Slow (misses.Writing 0 0)) refl,
-    (way (paths.Slow (misses.Changed 0 0 0)) refl,
-    (way (paths.Slow (misses.Odd 0 0)) refl,
-    (way (paths.Slow (misses.Dict 0 0)) refl,
-    (way (paths.Slow (misses.Keyless 0 0)) refl,
-    (way (paths.Slow (misses.Moved 0 0 0)) refl,
-    tt))))))))))
+    choice_gives path_item IsBare _ (
+      way paths.Locked refl,
+      (
+        way paths.Fast refl,
+        (
+          way (paths.Slow (misses.Untagged 0)) refl,
+          (
+            way (paths.Slow (misses.Unlike 0)) refl,
+            (
+              way (paths.Slow (misses.Writing 0 0)) refl,
+              (
+                way (paths.Slow (misses.Changed 0 0 0)) refl,
+                (
+                  way (paths.Slow (misses.Odd 0 0)) refl,
+                  (
+                    way (paths.Slow (misses.Dict 0 0)) refl,
+                    (
+                      way (paths.Slow (misses.Keyless 0 0)) refl,
+                      (
+                        way (paths.Slow (misses.Moved 0 0 0)) refl,
+                        tt,
+                      ),
+                    ),
+                  ),
+                ),
+              ),
+            ),
+          ),
+        ),
+      ),
+    )
   where
     way : (p : Path) → IsBare p → Gives (after (path_item p) (nothing p)) path_item IsBare
     way p h = word_gives (path_item p) p path_item IsBare refl h
@@ -223,11 +242,16 @@ thread_row t h =
 thread_gives : Gives thread_at thread_text IsThread
 unfolding thread_at RowGives
 thread_gives =
-    choice_gives thread_text IsThread _
-    (word_gives (thread_text main_thread) main_thread thread_text IsThread refl (omega arith),
-    (word_gives (thread_text finally_thread) finally_thread thread_text IsThread refl (omega arith),
-    (retext_gives thread_text IsThread thread_row (after_gives words.thread_word (passing_gives (nat_lt 0) (number_gives finally_thread))),
-    tt)))
+    choice_gives thread_text IsThread _ (
+      word_gives (thread_text main_thread) main_thread thread_text IsThread refl (omega arith),
+      (
+        word_gives (thread_text finally_thread) finally_thread thread_text IsThread refl (omega arith),
+        (
+          retext_gives thread_text IsThread thread_row (after_gives words.thread_word (passing_gives (nat_lt 0) (number_gives finally_thread))),
+          tt,
+        ),
+      ),
+    )
 
 module _ (s : ScriptParts) where
   done_gives : Gives (done_at s) (λ p. decimal p.0.0 ++ path_item p.0.1 ++ line_op_text s p.1 ++ codes " = ") (λ p. (IsLong p.0.0 × IsBare p.0.1) × HasLineOp s p.1)

@@ -76,20 +76,30 @@ module _ (s : ScriptParts) where
   marked_give : Gives (choice (marked_rows s)) (value_text s) (HasValue s)
   unfolding RowGives
   marked_give =
-      choice_gives (value_text s) (HasValue s) (marked_rows s)
-        (row_gives (codes "\"") Text (value_text s) (HasValue s) (λ x h. (refl, h)) (before_gives (codes "\"") (name_gives s.names)),
-        (row_gives (codes "#") Obj (value_text s) (HasValue s) (λ o h. (refl, h)) (number_gives widths.objects),
-        (row_gives (codes "-") (λ n. Int (negated n)) (value_text s) (HasValue s) minus (passing_gives (nat_lt 0) (number_gives (2 ^ 31 + 1))),
-        tt)))
+      choice_gives (value_text s) (HasValue s) (marked_rows s) (
+        row_gives (codes "\"") Text (value_text s) (HasValue s) (λ x h. (refl, h)) (before_gives (codes "\"") (name_gives s.names)),
+        (
+          row_gives (codes "#") Obj (value_text s) (HasValue s) (λ o h. (refl, h)) (number_gives widths.objects),
+          (
+            row_gives (codes "-") (λ n. Int (negated n)) (value_text s) (HasValue s) minus (passing_gives (nat_lt 0) (number_gives (2 ^ 31 + 1))),
+            tt,
+          ),
+        ),
+      )
 
   wrapped_give : Gives (choice (wrapped_rows s)) (value_text s) (HasValue s)
   unfolding RowGives parts_text
   wrapped_give =
-      choice_gives (value_text s) (HasValue s) (wrapped_rows s)
-        (row_gives words.static_word Static (value_text s) (HasValue s) (λ f h. (refl, h)) (name_gives s.funcs),
-        (row_gives words.classm_word ClassM (value_text s) (HasValue s) (λ f h. (refl, h)) (name_gives s.funcs),
-        (row_gives words.prop_word Prop (value_text s) (HasValue s) (λ q h. (refl, h)) property_gives,
-        tt)))
+      choice_gives (value_text s) (HasValue s) (wrapped_rows s) (
+        row_gives words.static_word Static (value_text s) (HasValue s) (λ f h. (refl, h)) (name_gives s.funcs),
+        (
+          row_gives words.classm_word ClassM (value_text s) (HasValue s) (λ f h. (refl, h)) (name_gives s.funcs),
+          (
+            row_gives words.prop_word Prop (value_text s) (HasValue s) (λ q h. (refl, h)) property_gives,
+            tt,
+          ),
+        ),
+      )
 
   integer_gives : (word : List ℕ) (v : value.Value) → integer_of word ≡ Some v → (word ≡ value_text s v) × HasValue s v
   integer_gives word v h =

@@ -13,8 +13,11 @@ use std::alloc::{AllocError, Global};
 use std::marker::Model;
 
 const NAMES: usize = Name::COUNT as usize;
+
 const CLASSES: usize = Class::COUNT as usize;
+
 const FUNCS: usize = Func::COUNT as usize;
+
 const VARS: usize = 1024;
 
 /// What a script names, each found by its text. Contracts see the script.

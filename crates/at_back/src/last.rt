@@ -39,11 +39,7 @@ pub fn class_head_at(
 }
 
 /// The line of the object with this number: `object #N C`.
-pub fn object_head_at(
-    text: &mut Cursor<'_>,
-    names: &Index<'_>,
-    number: u64,
-) -> Option<Class> {
+pub fn object_head_at(text: &mut Cursor<'_>, names: &Index<'_>, number: u64) -> Option<Class> {
     text.expect(OBJECT)?;
     if number != crate::number::number_of(text.run())? {
         return None;

@@ -161,11 +161,7 @@ fn front_at(text: &mut Cursor<'_>) -> Option<(u8, u32)>
     Some((thread, number as u32))
 }
 
-fn line_found(
-    alloc: Global,
-    text: &mut Cursor<'_>,
-    names: &Index<'_>,
-) -> Result<Line, PieceFault>
+fn line_found(alloc: Global, text: &mut Cursor<'_>, names: &Index<'_>) -> Result<Line, PieceFault>
     ensures { IfTold result (left (found result) text.new ≡ read_lines.line_at names.now text.old) }
 {
     let (thread, number) = there(front_at(text))?;
@@ -179,11 +175,7 @@ fn line_found(
 }
 
 /// Reads a line, with the newline that ends it. What a miss carries isn't in the text, and each number of it is 0.
-pub fn line_at(
-    alloc: Global,
-    text: &mut Cursor<'_>,
-    names: &Index<'_>,
-) -> Result<Line, PieceFault>
+pub fn line_at(alloc: Global, text: &mut Cursor<'_>, names: &Index<'_>) -> Result<Line, PieceFault>
     // The text of the line stands at the front, and what follows it is left.
     ensures told { IfOk result (λ line. IsAtFront names.now text.old line text.new) }
 

@@ -69,15 +69,36 @@ const ENDS: [(&str, u32); 48] = [
     // Threads and numbers.
     ("lines 1\nm 2 - local depth\nfinal\nend\n", 13),
     ("lines 1\nm 0 - local depth\nfinal\nend\n", 13),
-    ("lines 2\nm 1 - local depth\nm 1 - local depth\nfinal\nend\n", 14),
-    ("lines 2\nm 1 - local depth\nt2 2 - local depth\nfinal\nend\n", 14),
-    ("lines 2\nt2 1 - local depth\nt1 1 - local depth\nfinal\nend\n", 14),
-    ("lines 2\nf 1 - local depth\nm 1 - local depth\nfinal\nend\n", 14),
-    ("lines 3\nm 1 - local depth\nt9 1 - local depth\nf 1 - local kind\nfinal\nend\n", 0),
+    (
+        "lines 2\nm 1 - local depth\nm 1 - local depth\nfinal\nend\n",
+        14,
+    ),
+    (
+        "lines 2\nm 1 - local depth\nt2 2 - local depth\nfinal\nend\n",
+        14,
+    ),
+    (
+        "lines 2\nt2 1 - local depth\nt1 1 - local depth\nfinal\nend\n",
+        14,
+    ),
+    (
+        "lines 2\nf 1 - local depth\nm 1 - local depth\nfinal\nend\n",
+        14,
+    ),
+    (
+        "lines 3\nm 1 - local depth\nt9 1 - local depth\nf 1 - local kind\nfinal\nend\n",
+        0,
+    ),
     // The final part.
     ("lines 0\nfinal\nclass C =\nobject #0 C\n.x none\nend\n", 0),
-    ("lines 0\nfinal\nclass C = C object\nclass object = object\nend\n", 15),
-    ("lines 0\nfinal\nclass object = object\nclass object = object\nend\n", 15),
+    (
+        "lines 0\nfinal\nclass C = C object\nclass object = object\nend\n",
+        15,
+    ),
+    (
+        "lines 0\nfinal\nclass object = object\nclass object = object\nend\n",
+        15,
+    ),
     ("lines 0\nfinal\nclass D = D\nend\n", 14),
     ("lines 0\nfinal\nclass C = C \nend\n", 14),
     ("lines 0\nfinal\nobject #0 C\nobject #2 C\nend\n", 15),
@@ -85,7 +106,10 @@ const ENDS: [(&str, u32); 48] = [
     ("lines 0\nfinal\n.x 1\nend\n", 14),
     ("lines 0\nfinal\nclass C = C\n.x 1\n.x 1\nend\n", 16),
     ("lines 0\nfinal\nclass C = C\n.x 1\n.__init__ 1\nend\n", 16),
-    ("lines 0\nfinal\nclass C = C\n.__init__ 1\n.x 1\n.y 1\nend\n", 17),
+    (
+        "lines 0\nfinal\nclass C = C\n.__init__ 1\n.x 1\n.y 1\nend\n",
+        17,
+    ),
 ];
 
 #[test]
@@ -119,9 +143,15 @@ const FRONTS: [(&[u8], u32); 20] = [
     (b"attrs transcript 1\nscript 17\nattrs 1\nmain\nend\nx", 2),
     (b"attrs transcript 1\nscript 18\nattrs 1\nmain\nend\n\n", 2),
     // No script.
-    (b"attrs transcript 1\nscript 17\nattrs 1\nmain\nenf\n\nlines 0\n", 2),
+    (
+        b"attrs transcript 1\nscript 17\nattrs 1\nmain\nenf\n\nlines 0\n",
+        2,
+    ),
     (b"attrs transcript 1\nscript 0\n\nlines 0\n", 2),
-    (b"attrs transcript 1\nscript 99999999999999999999\nattrs 1\n", 2),
+    (
+        b"attrs transcript 1\nscript 99999999999999999999\nattrs 1\n",
+        2,
+    ),
 ];
 
 #[test]
