@@ -1,6 +1,7 @@
 -- Words of a table that are looked for one after another.
 use Rattle.std.proofs.Common.{◌≡◌, ◌∙◌, ap, refl, sym, ℕ, zero, suc, ◌+◌, ◌<◌, ◌≤◌, arith, List, [], ◌∷◌, length, drop, map, slice_get, Option, Some, None}
 use Rattle.std.specs.Option.{option_map}
+use Rattle.std.proofs.lemmas.Option.{same_Some}
 use Rattle.at_script.specs.Literals.{◌>>=◌}
 use Rattle.at_text.specs.Readers.{Reader, Row, nothing, past, chosen, choice}
 
@@ -26,7 +27,7 @@ module _ {W : Type 0} (word : W → List ℕ) where
   unfolding nothing
   word_here [] i w text left at h = cc
   word_here (v ∷ ws) zero w text left at h =
-      let same : v ≡ w = cc in
+      let same : v ≡ w = same_Some v w at in
       ap (λ u. chosen (past (word u) text) (nothing u) (choice (alone word ws) text)) same ∙ ap (λ o. chosen o (nothing w) (choice (alone word ws) text)) h
   word_here (v ∷ ws) (suc i) w text left at h = word_here ws i w text left at h
 
@@ -34,7 +35,7 @@ module _ {W : Type 0} (word : W → List ℕ) where
   pub word_not_here : (ws : List W) (i : ℕ) (w : W) (text : List ℕ) → slice_get ws i ≡ Some w → past (word w) text ≡ None → choice (alone word (drop i ws)) text ≡ choice (alone word (drop (suc i) ws)) text
   word_not_here [] i w text at h = cc
   word_not_here (v ∷ ws) zero w text at h =
-      let same : v ≡ w = cc in
+      let same : v ≡ w = same_Some v w at in
       ap (λ u. chosen (past (word u) text) (nothing u) (choice (alone word ws) text)) same ∙ ap (λ o. chosen o (nothing w) (choice (alone word ws) text)) h
   word_not_here (v ∷ ws) (suc i) w text at h = word_not_here ws i w text at h
 

@@ -130,11 +130,11 @@ word_gives {A} word a text Has same has = record {
 
 module _ {A : Type 0} (text : A → List ℕ) (Has : A → Type 0) where
   -- a row of a table
-  pub RowGives : Row A → Type 0
+  abbrev pub RowGives : Row A → Type 0
   RowGives row = Gives (after row.0 row.1) text Has
 
   pub choice_gives : (rows : List (Row A)) → AllByRecursion RowGives rows → Gives (choice rows) text Has
-  unfolding after RowGives
+  unfolding after
   choice_gives [] all = record { there = λ t p h. cc }
   choice_gives (row ∷ rows) all = record {
     there = λ t p h.
@@ -155,7 +155,6 @@ module _ {A : Type 0} (text : A → List ℕ) (Has : A → Type 0) where
 
 module _ {W A : Type 0} (text : A → List ℕ) (Has : A → Type 0) (word : W → List ℕ) (rest : W → Reader A) where
   table_rows : ((w : W) → Gives (after (word w) (rest w)) text Has) → (ws : List W) → AllByRecursion (RowGives text Has) (map (λ w. (word w, rest w)) ws)
-  unfolding RowGives
   table_rows each [] = tt
   table_rows each (w ∷ ws) = (each w, table_rows each ws)
 

@@ -17,6 +17,10 @@ module _ {A : Type 0} (more : List ℕ → Bool) (r : Reader A) (none : more [] 
   ended zero k t h = refl
   ended (suc n) k t h = ap (λ b. cond b (r t >>= next n k) (Some ([], t))) h
 
+  same_next : (n m k j : ℕ) (o : Option (A × List ℕ)) → ((p : A × List ℕ) → o ≡ Some p → up_to n more (λ _. r) (k + 1) p.1 ≡ up_to m more (λ _. r) (j + 1) p.1) → (o >>= next n k) ≡ (o >>= next m j)
+  same_next n m k j None same = refl
+  same_next n m k j (Some p) same = ap (option_map (λ (rest : List A × List ℕ). (p.0 ∷ rest.0, rest.1))) (same p refl)
+
   fuel : (n m k j : ℕ) (t : List ℕ) → length t ≤ n → length t ≤ m → up_to n more (λ _. r) k t ≡ up_to m more (λ _. r) j t
   unfolding nothing
   fuel zero zero k j t h g = refl
@@ -24,13 +28,9 @@ module _ {A : Type 0} (more : List ℕ → Bool) (r : Reader A) (none : more [] 
   fuel zero (suc m) k j (b ∷ t) h g = absurd (omega arith)
   fuel (suc n) zero k j [] h g = ended (suc n) k [] none
   fuel (suc n) zero k j (b ∷ t) h g = absurd (omega arith)
-  fuel (suc n) (suc m) k j t h g = ap (λ o. cond (more t) o (Some ([], t))) (same (r t) refl)
-    where
-      same : (o : Option (A × List ℕ)) → r t ≡ o → (o >>= next n k) ≡ (o >>= next m j)
-      same None e = refl
-      same (Some p) e =
-          let less = shorter t p e in
-          ap (option_map (λ (rest : List A × List ℕ). (p.0 ∷ rest.0, rest.1))) (fuel n m (k + 1) (j + 1) p.1 (omega arith) (omega arith))
+  fuel (suc n) (suc m) k j t h g =
+      ap (λ o. cond (more t) o (Some ([], t)))
+      (same_next n m k j (r t) (λ p e. let less = shorter t p e in fuel n m (k + 1) (j + 1) p.1 (omega arith) (omega arith)))
 
   abbrev all : Reader (List A)
   all = numbered more (λ _. r)

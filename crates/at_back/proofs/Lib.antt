@@ -8,3 +8,4 @@ pub mod LinesGive
 pub mod Indexed
 pub mod Exact
 pub mod Items
+pub mod ClassItems

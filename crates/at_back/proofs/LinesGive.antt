@@ -1,5 +1,5 @@
 -- What is read as an operation, a reply or a line is the text of it.
-use Rattle.std.proofs.Common.{◌≡◌, ◌∙◌, ap, refl, sym, subst, ℕ, zero, suc, ◌+◌, ◌<◌, ◌≤◌, ◌^◌, ◌==◌, nat_lt, arith, List, [], ◌∷◌, ◌++◌, append_assoc, append-nil, true, false, cond, codes, decimal, Option, Some, None, inl, inr, true≢false}
+use Rattle.std.proofs.Common.{◌≡◌, ◌∙◌, ap, refl, sym, subst, ℕ, zero, suc, ◌+◌, ◌<◌, ◌≤◌, ◌^◌, ◌==◌, nat_lt, arith, List, [], ◌∷◌, ◌++◌, append_assoc, append-nil, map, true, false, cond, codes, decimal, Option, Some, None, inl, inr, true≢false}
 use Rattle.std.proofs.lemmas.Bool.{cases_Bool, ltb-true}
 use Rattle.std.proofs.lemmas.Bool.Decides.{nat_tests}
 use Rattle.std.proofs.lemmas.Option.{same_Some}
@@ -191,9 +191,9 @@ abbrev IsBare : Path → Type 0
 IsBare way = bare_path way ≡ way
 
 path_item_gives : Gives path_item_at path_item IsBare
-unfolding path_item_at RowGives
+unfolding path_item_at
 path_item_gives =
-    choice_gives path_item IsBare _ (
+    choice_gives path_item IsBare (map (word_row path_item) all_paths) (
       way paths.Locked refl,
       (
         way paths.Fast refl,
@@ -240,9 +240,9 @@ thread_row t h =
     (sym (ap (λ b. cond b (codes "m") (cond (t == finally_thread) (codes "f") (words.thread_word ++ decimal t))) first ∙ ap (λ b. cond b (codes "f") (words.thread_word ++ decimal t)) last), omega arith)
 
 thread_gives : Gives thread_at thread_text IsThread
-unfolding thread_at RowGives
+unfolding thread_at
 thread_gives =
-    choice_gives thread_text IsThread _ (
+    choice_gives thread_text IsThread (word_row thread_text main_thread ∷ word_row thread_text finally_thread ∷ (words.thread_word, positive_at finally_thread) ∷ []) (
       word_gives (thread_text main_thread) main_thread thread_text IsThread refl (omega arith),
       (
         word_gives (thread_text finally_thread) finally_thread thread_text IsThread refl (omega arith),

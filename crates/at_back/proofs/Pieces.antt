@@ -74,7 +74,6 @@ module _ (s : ScriptParts) where
   minus (suc n) h = let l = h.0 in (refl, omega arith)
 
   marked_give : Gives (choice (marked_rows s)) (value_text s) (HasValue s)
-  unfolding RowGives
   marked_give =
       choice_gives (value_text s) (HasValue s) (marked_rows s) (
         row_gives (codes "\"") Text (value_text s) (HasValue s) (λ x h. (refl, h)) (before_gives (codes "\"") (name_gives s.names)),
@@ -88,7 +87,7 @@ module _ (s : ScriptParts) where
       )
 
   wrapped_give : Gives (choice (wrapped_rows s)) (value_text s) (HasValue s)
-  unfolding RowGives parts_text
+  unfolding parts_text
   wrapped_give =
       choice_gives (value_text s) (HasValue s) (wrapped_rows s) (
         row_gives words.static_word Static (value_text s) (HasValue s) (λ f h. (refl, h)) (name_gives s.funcs),
