@@ -28,3 +28,8 @@ abbrev pub IfTold : {A : Type 0} → Result A PieceFault → Type 0 → Type 0
 IfTold (Ok a) P = P
 IfTold (Err faults.Wrong) P = P
 IfTold (Err faults.NoMemory) P = Unit {0}
+
+-- what was read, where it is there
+abbrev pub there_of : {A : Type 0} → Option A → Result A PieceFault
+there_of None = Err faults.Wrong
+there_of (Some a) = Ok a

@@ -1,4 +1,3 @@
 pub mod Left
 pub mod Indexing
 pub mod Told
-pub mod Transcripts

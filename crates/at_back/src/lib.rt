@@ -1,10 +1,9 @@
-//! Transcripts, read back from their text.
+//! The lines of a transcript, read back from their text.
 #![tactic(auto)]
 
 mod cursor;
 mod fault;
 mod index;
-mod last;
 mod line;
 mod list;
 mod number;
@@ -12,8 +11,9 @@ mod operation;
 mod reply;
 #[cfg(test)]
 mod tests;
-mod transcript;
 mod value;
 
-pub use fault::TextFault;
-pub use transcript::{Bytes, Transcript, read};
+pub use cursor::Cursor;
+pub use fault::PieceFault;
+pub use index::Index;
+pub use line::line_at;

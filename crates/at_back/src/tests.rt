@@ -1,4 +1,2 @@
-//! Pieces and whole texts that are read.
-mod faults;
+//! Pieces of a transcript that are read.
 mod pieces;
-mod whole;
