@@ -1,10 +1,10 @@
 -- Words that are the decimal text of a number.
-use Rattle.std.proofs.Common.{◌≡◌, ◌∙◌, ap, refl, sym, subst, ℕ, zero, suc, ◌<◌, ◌≤◌, ◌^◌, ◌==◌, nat_lt, arith, List, [], ◌∷◌, length, get_or, drop, true, false, cond, ◌&&◌, bytes_eq, decimal, Option, Some, None, Result, Ok, Err, inl, inr, true≢false, Bool}
+use Rattle.std.proofs.Common.{◌≡◌, ◌∙◌, ap, refl, sym, subst, ℕ, zero, suc, ◌<◌, ◌≤◌, ◌^◌, ◌==◌, nat_lt, arith, List, [], ◌∷◌, length, get_or, slice_index, drop, true, false, cond, ◌&&◌, bytes_eq, decimal, Option, Some, None, Result, Ok, Err, inl, inr, true≢false, Bool}
 use Rattle.std.specs.List.{list_all}
 use Rattle.std.specs.Result.{result_ok}
 use Rattle.std.specs.Option.{option_map}
 use Rattle.std.specs.Str.Parse.{AllDigits, IsNumeral, ParsesUnsigned, digits_value, without_leading_plus}
-use Rattle.std.proofs.lemmas.Bool.{cases_Bool, ltb-true, ltb-false, lt-ltb, le-ltb}
+use Rattle.std.proofs.lemmas.Bool.{cases_Bool, ltb-true, ltb-false, lt-ltb, le-ltb, eqb-true, eq-eqb}
 use Rattle.std.proofs.lemmas.Bool.Decides.{nat_tests}
 use Rattle.std.proofs.lemmas.Fmt.{decimal_is_IsNumeral, decimal-digits_value, first_decimal}
 use Rattle.std.proofs.lemmas.Slice.Eq.{bytes_eq-Decides}
@@ -12,6 +12,7 @@ use Rattle.std.proofs.lemmas.Str.Parse.{IsNumeralModel}
 use Rattle.at_script.specs.Literals.{◌>>=◌}
 use Rattle.at_script.specs.Words.{continues_identifier}
 use Rattle.at_text.specs.Readers.{run, past_run, number_of, number_below, number_at}
+use Rattle.at_back.specs.Left.{leads_zero}
 use Rattle.at_back.proofs.Runs.{run_continues}
 
 abbrev within : ℕ → ℕ → Option ℕ
@@ -91,6 +92,24 @@ parsed word r letters first h =
     one_zero : (w : List ℕ) → (get_or w 0 0 ≡ 48 → length w ≤ 1) → get_or w 0 0 ≡ 48 → length w ≡ 1
     one_zero [] f z = absurd (omega arith)
     one_zero (c ∷ w) f z = let k = f z in omega arith
+
+leads-parts : (a b : Bool) → (a && b) ≡ true → (a ≡ true) × (b ≡ true)
+leads-parts true b h = (refl, h)
+leads-parts false b h = cc
+
+pub leading_none : (word : List ℕ) → leads_zero word ≡ true → number_below (2 ^ 64) word ≡ None
+leading_none word h =
+    let k = leads-parts (nat_lt 1 (length word)) (slice_index word 0 == 48) h in
+    no_leading_zero word (ltb-true 1 (length word) k.0) (eqb-true (slice_index word 0) 48 k.1)
+
+pub parsed_plain : {E : Type 0} (word : List ℕ) (r : Result ℕ E) → run word ≡ word → leads_zero word ≡ false → ParsesUnsigned 64 10 word r → result_ok r ≡ number_below (2 ^ 64) word
+parsed_plain word r letters h = parsed word r letters (λ z.
+    elim (cases_Bool (nat_lt 1 (length word))) [
+      | inl e ↦
+          let other : (slice_index word 0 == 48) ≡ false = sym (ap (λ b. b && slice_index word 0 == 48) e) ∙ h in
+          absurd (true≢false (sym (eq-eqb (slice_index word 0) 48 z) ∙ other))
+      | inr e ↦ ltb-false 1 (length word) e
+    ])
 
 -- Narrower bounds
 

@@ -1,5 +1,6 @@
 -- private: no public clause cites it. What a reader of the code gives, and what it leaves of the text.
-use Rattle.std.specs.Prelude.{ℕ, Bool, true, false, List, Option, Some, None, Result, Ok, Err}
+use Rattle.std.specs.Prelude.{ℕ, ◌==◌, nat_lt, Bool, true, false, ◌&&◌, List, length, slice_index, Option, Some, None, Result, Ok, Err}
+use Rattle.at_script.specs.Bytes as bytes
 use Rattle.at_back.specs.declared.fault.PieceFault.{PieceFault}
 use Rattle.at_back.specs.declared.fault.PieceFault.TheVariants as faults
 
@@ -33,3 +34,7 @@ IfTold (Err faults.NoMemory) P = Unit {0}
 abbrev pub there_of : {A : Type 0} → Option A → Result A PieceFault
 there_of None = Err faults.Wrong
 there_of (Some a) = Ok a
+
+-- more than one digit, and the first is `0`
+abbrev pub leads_zero : List ℕ → Bool
+leads_zero word = nat_lt 1 (length word) && slice_index word 0 == bytes.zero

@@ -118,6 +118,7 @@ impl<'t> Cursor<'t> {
     }
 
     /// Reads a number below the bound.
+    #[tactic(auto, using(crate::proofs::Runs::run_again), unfolding(at_text::specs::Readers::number_at))]
     pub fn number(&mut self, bound: u64) -> Option<u64>
         ensures { left result self.new ≡ number_at bound self.old }
     {
@@ -126,6 +127,7 @@ impl<'t> Cursor<'t> {
     }
 
     /// Reads a number from 1 on, below the bound.
+    #[tactic(auto, unfolding(at_text::specs::Readers::passing))]
     pub fn positive(&mut self, bound: u64) -> Option<u64>
         ensures { left result self.new ≡ positive_at bound self.old }
     {

@@ -1,4 +1,6 @@
 //! Reading lines.
+#![tactic(auto, unfolding(at_text::specs::Readers::both, at_text::specs::Readers::before, at_text::specs::Readers::after, at_text::specs::Readers::made, at_text::specs::Readers::passing, at_text::specs::Readers::nothing))]
+
 ghost use Rattle.std.specs.Prelude.{◌≡◌, ◌^◌, map, IfOk, Err};
 ghost use Rattle.at_text.specs.Readers.{nothing, choice, number_at};
 ghost use Rattle.at_text.specs.ReadLines as read_lines;
@@ -23,6 +25,7 @@ use std::alloc::Global;
 const SHORT: u64 = 1 << 32;
 
 /// A number of 64 bits.
+#[tactic(auto, using(crate::proofs::Runs::run_again), unfolding(at_text::specs::Readers::number_at))]
 fn long_at(text: &mut Cursor<'_>) -> Option<u64>
     ensures { left result text.new ≡ number_at (2 ^ 64) text.old }
 {
@@ -30,6 +33,7 @@ fn long_at(text: &mut Cursor<'_>) -> Option<u64>
 }
 
 /// The way that a call went, between blanks, with 0 for each number that a miss carries.
+#[tactic(auto, unfolding(at_text::specs::Readers::both, at_text::specs::Readers::before, at_text::specs::Readers::after, at_text::specs::Readers::made, at_text::specs::Readers::passing, at_text::specs::Readers::nothing, at_text::specs::ReadLines::path_item_at))]
 fn path_item_at(text: &mut Cursor<'_>) -> Option<Path>
     ensures { left result text.new ≡ read_lines.path_item_at text.old }
 {
@@ -88,6 +92,7 @@ fn local_rest(text: &mut Cursor<'_>, names: &Index<'_>, word: LocalWord) -> Opti
     }
 }
 
+#[tactic(auto, unfolding(at_text::specs::Readers::both, at_text::specs::Readers::before, at_text::specs::Readers::after, at_text::specs::Readers::made, at_text::specs::Readers::passing, at_text::specs::Readers::nothing, at_text::specs::ReadLines::local_at))]
 fn local_at(text: &mut Cursor<'_>, names: &Index<'_>) -> Option<Local>
     ensures { left result text.new ≡ read_lines.local_at names.now text.old }
 {
@@ -96,6 +101,7 @@ fn local_at(text: &mut Cursor<'_>, names: &Index<'_>) -> Option<Local>
 }
 
 /// A thread: `m`, `f`, or `t` and its number.
+#[tactic(auto, unfolding(at_text::specs::Readers::both, at_text::specs::Readers::before, at_text::specs::Readers::after, at_text::specs::Readers::made, at_text::specs::Readers::passing, at_text::specs::Readers::nothing, at_text::specs::ReadLines::thread_at))]
 fn thread_at(text: &mut Cursor<'_>) -> Option<u8>
     ensures { left result text.new ≡ read_lines.thread_at text.old }
 {
@@ -111,6 +117,7 @@ fn thread_at(text: &mut Cursor<'_>) -> Option<u8>
 }
 
 /// Place, path and operation.
+#[tactic(auto, unfolding(at_text::specs::Readers::both, at_text::specs::Readers::before, at_text::specs::Readers::after, at_text::specs::Readers::made, at_text::specs::Readers::passing, at_text::specs::Readers::nothing, at_text::specs::ReadLines::done_at))]
 fn done_at(text: &mut Cursor<'_>, names: &Index<'_>) -> Option<((u64, Path), LineOp)>
     ensures { left result text.new ≡ read_lines.done_at names.now text.old }
 {
@@ -122,6 +129,7 @@ fn done_at(text: &mut Cursor<'_>, names: &Index<'_>) -> Option<((u64, Path), Lin
 }
 
 /// Place, path, operation and reply.
+#[tactic(auto, unfolding(at_text::specs::Readers::both, at_text::specs::Readers::before, at_text::specs::Readers::after, at_text::specs::Readers::made, at_text::specs::Readers::passing, at_text::specs::Readers::nothing, at_text::specs::ReadLines::did_at))]
 fn did_at(alloc: Global, text: &mut Cursor<'_>, names: &Index<'_>) -> Result<What, PieceFault>
     ensures { IfTold result (left (found result) text.new ≡ read_lines.did_at names.now text.old) }
 {
@@ -131,6 +139,7 @@ fn did_at(alloc: Global, text: &mut Cursor<'_>, names: &Index<'_>) -> Result<Wha
 }
 
 /// What a line that is no operation says.
+#[tactic(auto, unfolding(at_text::specs::Readers::both, at_text::specs::Readers::before, at_text::specs::Readers::after, at_text::specs::Readers::made, at_text::specs::Readers::passing, at_text::specs::Readers::nothing, at_text::specs::ReadLines::local_what_at))]
 fn local_what_at(text: &mut Cursor<'_>, names: &Index<'_>) -> Option<What>
     ensures { left result text.new ≡ read_lines.local_what_at names.now text.old }
 {
@@ -140,6 +149,7 @@ fn local_what_at(text: &mut Cursor<'_>, names: &Index<'_>) -> Option<What>
 }
 
 /// What a line says after its thread and its number.
+#[tactic(auto, unfolding(at_text::specs::ReadLines::what_at))]
 fn what_at(alloc: Global, text: &mut Cursor<'_>, names: &Index<'_>) -> Result<What, PieceFault>
     ensures { IfTold result (left (found result) text.new ≡ read_lines.what_at names.now text.old) }
 {
@@ -151,6 +161,7 @@ fn what_at(alloc: Global, text: &mut Cursor<'_>, names: &Index<'_>) -> Result<Wh
 }
 
 /// The thread and the number of a line, each with a blank after it.
+#[tactic(auto, unfolding(at_text::specs::Readers::both, at_text::specs::Readers::before, at_text::specs::Readers::after, at_text::specs::Readers::made, at_text::specs::Readers::passing, at_text::specs::Readers::nothing, at_text::specs::ReadLines::front_at))]
 fn front_at(text: &mut Cursor<'_>) -> Option<(u8, u32)>
     ensures { left result text.new ≡ read_lines.front_at text.old }
 {
@@ -161,6 +172,7 @@ fn front_at(text: &mut Cursor<'_>) -> Option<(u8, u32)>
     Some((thread, number as u32))
 }
 
+#[tactic(auto, unfolding(at_text::specs::Readers::both, at_text::specs::Readers::before, at_text::specs::Readers::after, at_text::specs::Readers::made, at_text::specs::Readers::passing, at_text::specs::Readers::nothing, at_text::specs::ReadLines::line_at))]
 fn line_found(alloc: Global, text: &mut Cursor<'_>, names: &Index<'_>) -> Result<Line, PieceFault>
     ensures { IfTold result (left (found result) text.new ≡ read_lines.line_at names.now text.old) }
 {

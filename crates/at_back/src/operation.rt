@@ -1,4 +1,6 @@
 //! Reading operations.
+#![tactic(auto, unfolding(at_text::specs::Readers::both, at_text::specs::Readers::before, at_text::specs::Readers::after, at_text::specs::Readers::made, at_text::specs::Readers::passing, at_text::specs::Readers::nothing))]
+
 ghost use Rattle.std.specs.Prelude.{◌≡◌, map};
 ghost use Rattle.at_text.specs.Readers.{nothing, choice};
 ghost use Rattle.at_text.specs.Tables.{op_word, all_op_words};
@@ -205,6 +207,7 @@ fn op_rest(text: &mut Cursor<'_>, names: &Index<'_>, word: OpWord) -> Option<Lin
 }
 
 /// The operation of a line.
+#[tactic(auto, unfolding(at_text::specs::Readers::both, at_text::specs::Readers::before, at_text::specs::Readers::after, at_text::specs::Readers::made, at_text::specs::Readers::passing, at_text::specs::Readers::nothing, at_text::specs::ReadLines::line_op_at))]
 pub fn line_op_at(text: &mut Cursor<'_>, names: &Index<'_>) -> Option<LineOp>
     ensures { left result text.new ≡ read_lines.line_op_at names.now text.old }
 {

@@ -1,4 +1,6 @@
 //! Reading replies.
+#![tactic(auto, unfolding(at_text::specs::Readers::both, at_text::specs::Readers::before, at_text::specs::Readers::after, at_text::specs::Readers::made, at_text::specs::Readers::passing, at_text::specs::Readers::nothing))]
+
 ghost use Rattle.std.specs.Prelude.{◌≡◌, ◌≢◌, ◌^◌, map};
 ghost use Rattle.at_text.specs.Readers.{nothing, choice};
 ghost use Rattle.at_text.specs.Lines.{hook_word};
@@ -33,6 +35,7 @@ fn reply_word_at(text: &mut Cursor<'_>) -> Option<ReplyWord>
     None
 }
 
+#[tactic(auto, unfolding(at_text::specs::Readers::both, at_text::specs::Readers::before, at_text::specs::Readers::after, at_text::specs::Readers::made, at_text::specs::Readers::passing, at_text::specs::Readers::nothing, at_text::specs::ReadLines::hook_at))]
 fn hook_kind_at(text: &mut Cursor<'_>) -> Option<HookKind>
     ensures { left result text.new ≡ read_lines.hook_at text.old }
 {
@@ -182,6 +185,7 @@ fn reply_rest(
 }
 
 /// The reply of a line.
+#[tactic(auto, unfolding(at_text::specs::Readers::both, at_text::specs::Readers::before, at_text::specs::Readers::after, at_text::specs::Readers::made, at_text::specs::Readers::passing, at_text::specs::Readers::nothing, at_text::specs::ReadLines::line_reply_at))]
 pub fn line_reply_at(
     alloc: Global,
     text: &mut Cursor<'_>,

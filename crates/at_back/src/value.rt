@@ -1,4 +1,6 @@
 //! Reading names and values.
+#![tactic(auto, unfolding(at_text::specs::Readers::both, at_text::specs::Readers::before, at_text::specs::Readers::after, at_text::specs::Readers::made, at_text::specs::Readers::passing, at_text::specs::Readers::nothing))]
+
 ghost use Rattle.std.specs.Prelude.{◌≡◌, ◌^◌};
 ghost use Rattle.std.specs.List.{list_all};
 ghost use Rattle.at_value.specs.Widths as widths;
@@ -18,6 +20,7 @@ use at_value::{Bases, Class, Func, Name, Obj, Prop, Value};
 const INTEGERS: u64 = 1 << 31;
 
 /// An attribute name or a text.
+#[tactic(auto, unfolding(at_text::specs::Readers::name_at))]
 pub fn name_at(text: &mut Cursor<'_>, names: &Index<'_>) -> Option<Name>
     ensures { left result text.new ≡ readers.name_at names.now.names text.old }
 {
@@ -25,6 +28,7 @@ pub fn name_at(text: &mut Cursor<'_>, names: &Index<'_>) -> Option<Name>
 }
 
 /// A class.
+#[tactic(auto, unfolding(at_text::specs::Readers::name_at))]
 pub fn class_at(text: &mut Cursor<'_>, names: &Index<'_>) -> Option<Class>
     ensures { left result text.new ≡ readers.name_at names.now.classes text.old }
 {
@@ -32,6 +36,7 @@ pub fn class_at(text: &mut Cursor<'_>, names: &Index<'_>) -> Option<Class>
 }
 
 /// A function.
+#[tactic(auto, unfolding(at_text::specs::Readers::name_at))]
 pub fn func_at(text: &mut Cursor<'_>, names: &Index<'_>) -> Option<Func>
     ensures { left result text.new ≡ readers.name_at names.now.funcs text.old }
 {
@@ -39,6 +44,7 @@ pub fn func_at(text: &mut Cursor<'_>, names: &Index<'_>) -> Option<Func>
 }
 
 /// A variable.
+#[tactic(auto, unfolding(at_text::specs::Readers::name_at))]
 pub fn var_at(text: &mut Cursor<'_>, names: &Index<'_>) -> Option<u16>
     ensures { left result text.new ≡ readers.name_at names.now.vars text.old }
 {
@@ -251,6 +257,7 @@ fn worded(word: &str, names: &Index<'_>) -> Option<Value>
 }
 
 /// A value.
+#[tactic(auto, using(crate::proofs::Runs::run_again), unfolding(at_text::specs::ReadValues::value_at))]
 pub fn value_at(text: &mut Cursor<'_>, names: &Index<'_>) -> Option<Value>
     ensures { left result text.new ≡ read_values.value_at names.now text.old }
 {
