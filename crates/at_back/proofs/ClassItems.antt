@@ -11,7 +11,7 @@ use Rattle.at_back.proofs.Items.{onto, onto_next, onto_wrong, onto_ended, onto_n
 use Rattle.at_back.proofs.Pieces.{class_item_gives}
 
 module _ (s : ScriptParts) where
-  shorter : (t : List ℕ) (p : ℕ × List ℕ) → class_item_at s t ≡ Some p → length p.1 < length t
+  pub shorter : (t : List ℕ) (p : ℕ × List ℕ) → class_item_at s t ≡ Some p → length p.1 < length t
   shorter t p h =
       let e = ap length ((class_item_gives s).there t p h).0 in
       let l = length-append (class_item s p.0) p.1 in

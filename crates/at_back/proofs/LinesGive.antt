@@ -1,5 +1,5 @@
 -- What is read as an operation, a reply or a line is the text of it.
-use Rattle.std.proofs.Common.{◌≡◌, ◌∙◌, ap, refl, sym, subst, ℕ, zero, suc, ◌+◌, ◌<◌, ◌≤◌, ◌^◌, ◌==◌, nat_lt, arith, List, [], ◌∷◌, ◌++◌, append_assoc, append-nil, map, true, false, cond, codes, decimal, Option, Some, None, inl, inr, true≢false}
+use Rattle.std.proofs.Common.{◌≡◌, ◌∙◌, ap, refl, sym, subst, ℕ, zero, suc, ◌+◌, ◌<◌, ◌≤◌, ◌^◌, ◌==◌, nat_lt, arith, List, [], ◌∷◌, ◌++◌, append_assoc, append-nil, map, Bool, true, false, cond, codes, decimal, Option, Some, None, inl, inr, true≢false}
 use Rattle.std.proofs.lemmas.Bool.{cases_Bool, ltb-true}
 use Rattle.std.proofs.lemmas.Bool.Decides.{nat_tests}
 use Rattle.std.proofs.lemmas.Option.{same_Some}

@@ -6,7 +6,7 @@ use Rattle.std.specs.Option.{option_map}
 use Rattle.std.specs.Str.Parse.{AllDigits, IsNumeral, ParsesUnsigned, digits_value, without_leading_plus}
 use Rattle.std.proofs.lemmas.Bool.{cases_Bool, ltb-true, ltb-false, lt-ltb, le-ltb, eqb-true, eq-eqb}
 use Rattle.std.proofs.lemmas.Bool.Decides.{nat_tests}
-use Rattle.std.proofs.lemmas.Fmt.{decimal_is_IsNumeral, decimal-digits_value, first_decimal}
+use Rattle.std.proofs.lemmas.Fmt.{decimal_is_IsNumeral, decimal-digits_value, decimal_digit, first_decimal}
 use Rattle.std.proofs.lemmas.Slice.Eq.{bytes_eq-Decides}
 use Rattle.std.proofs.lemmas.Str.Parse.{IsNumeralModel}
 use Rattle.at_script.specs.Literals.{◌>>=◌}
@@ -21,7 +21,7 @@ within bound n = cond (nat_lt n bound) (Some n) None
 -- the word is the decimal text of a number below the bound, or it isn't
 below_cases : (bound : ℕ) (word : List ℕ) (P : Option ℕ → Type 0) → (word ≡ decimal (digits_value 10 word) → digits_value 10 word < bound → P (Some (digits_value 10 word)))
     → ((word ≡ decimal (digits_value 10 word) → digits_value 10 word < bound → ⊥) → P None) → P (number_below bound word)
-below_cases bound word P yes no =
+below_cases bound word P some none =
     let v = digits_value 10 word in
     let told : ℕ → Option ℕ = within bound in
     elim (cases_Bool (bytes_eq word (decimal v))) [
@@ -29,18 +29,18 @@ below_cases bound word P yes no =
           elim (cases_Bool (nat_lt v bound)) [
             | inl l ↦
                 subst P (sym (ap (λ b. cond b (Some v) None >>= told) e ∙ ap (λ b. cond b (Some v) None) l))
-                (yes ((bytes_eq-Decides word (decimal v)).0 e) (ltb-true v bound l))
+                (some ((bytes_eq-Decides word (decimal v)).0 e) (ltb-true v bound l))
             | inr l ↦
                 subst P (sym (ap (λ b. cond b (Some v) None >>= told) e ∙ ap (λ b. cond b (Some v) None) l))
-                (no (λ w h. let g = ltb-false v bound l in omega arith))
+                (none (λ w h. let g = ltb-false v bound l in omega arith))
           ]
       | inr e ↦
           subst P (sym (ap (λ b. cond b (Some v) None >>= told) e))
-          (no (λ w h. true≢false (sym ((bytes_eq-Decides word (decimal v)).1 w) ∙ e)))
+          (none (λ w h. true≢false (sym ((bytes_eq-Decides word (decimal v)).1 w) ∙ e)))
     ]
 
 zero_leads : (v : ℕ) (word : List ℕ) → word ≡ decimal v → v < 2 ^ 64 → 1 < length word → get_or word 0 0 ≡ 48 → ⊥
-zero_leads zero word e h long z = let l : length word ≡ 1 = ap length e in omega arith
+zero_leads zero word e h long z = let l : length word ≡ 1 = ap length (e ∙ decimal_digit 0 (omega arith)) in omega arith
 zero_leads (suc n) word e h long z =
     let f = first_decimal (suc n) (omega arith) h in
     let g : get_or word 0 0 ≡ get_or (decimal (suc n)) 0 0 = ap (λ w. get_or w 0 0) e in
@@ -49,7 +49,7 @@ zero_leads (suc n) word e h long z =
 -- no number has a leading zero
 pub no_leading_zero : (word : List ℕ) → 1 < length word → get_or word 0 0 ≡ 48 → number_below (2 ^ 64) word ≡ None
 no_leading_zero word long z =
-    below_cases (2 ^ 64) word (λ o. o ≡ None) (λ e h. absurd (zero_leads (digits_value 10 word) word e h long z)) (λ n. refl)
+    below_cases (2 ^ 64) word (λ o. o ≡ None) (λ e h. absurd (zero_leads (digits_value 10 word) word e h long z)) (λ other. refl)
 
 own : IsNumeralModel (AllDigits 10) (digits_value 10)
 own = record {
@@ -76,13 +76,13 @@ read_in word (Ok x) plain first h =
     let small : v < 2 ^ 64 = subst (λ w. digits_value 10 w < 2 ^ 64) plain h.0.1 in
     let same : x ≡ v = h.1 ∙ ap (digits_value 10) plain in
     below_cases (2 ^ 64) word (λ o. Some x ≡ o) (λ e l. ap Some same)
-    (λ no. absurd (no (sym (decimal-digits_value own word numeral.1 numeral.0 first small)) small))
+    (λ other. absurd (other (sym (decimal-digits_value own word numeral.1 numeral.0 first small)) small))
 read_in word (Err f) plain first h =
     below_cases (2 ^ 64) word (λ o. None ≡ o)
     (λ e l.
     let numeral : IsNumeral 10 word = subst (λ w. IsNumeral 10 w) (sym e) (decimal_is_IsNumeral (digits_value 10 word) l).0 in
     absurd (h (subst (λ w. IsNumeral 10 w) (sym plain) numeral, subst (λ w. digits_value 10 w < 2 ^ 64) (sym plain) l)))
-    (λ no. refl)
+    (λ other. refl)
 
 -- what `parse` gives of a word that has no leading zero
 pub parsed : {E : Type 0} (word : List ℕ) (r : Result ℕ E) → run word ≡ word → (get_or word 0 0 ≡ 48 → length word ≤ 1) → ParsesUnsigned 64 10 word r → result_ok r ≡ number_below (2 ^ 64) word

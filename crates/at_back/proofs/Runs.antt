@@ -1,14 +1,21 @@
 -- The letters, digits and `_` at the front of a text.
-use Rattle.std.proofs.Common.{◌≡◌, ◌∙◌, ap, refl, subst, sym, ℕ, ◌+◌, ◌<◌, ◌≤◌, arith, List, [], ◌∷◌, length, take, drop, true, false, cond, not, ◌&&◌, ltb, Some, None, one-add}
+use Rattle.std.proofs.Common.{◌≡◌, ◌∙◌, ap, refl, subst, sym, ℕ, ◌+◌, ◌<◌, ◌≤◌, arith, List, [], ◌∷◌, length, take, drop, Bool, true, false, cond, not, ◌&&◌, ltb, Some, None, one-add}
 use Rattle.std.specs.List.{list_all, position, prefix_len}
 use Rattle.std.specs.Str.{IsAscii, IsUtf8}
 use Rattle.std.proofs.lemmas.Str.{IsUtf8-from_ascii}
 use Rattle.std.proofs.lemmas.Str.Ascii.{IsAscii-nil, IsAscii-cons}
 use Rattle.std.proofs.lemmas.Option.{cond_some}
+use Rattle.std.proofs.lemmas.Bool.{ltb-false}
 use Rattle.std.proofs.lemmas.Bool.Decides.{nat_tests}
 use Rattle.at_script.specs.Words.{continues_identifier}
-use Rattle.at_script.proofs.Cuts.{none_at}
 use Rattle.at_text.specs.Readers.{run, past_run}
+
+none_at : (n m : ℕ) → cond (ltb n m) (Some n) None ≡ None → m ≤ n
+none_at n m =
+    elim (ltb n m) as (λ b. (ltb n m ≡ b) → cond b (Some n) None ≡ None → m ≤ n) [
+      | true ↦ λ e h. cc
+      | false ↦ λ e h. ltb-false n m e
+    ] refl
 
 abbrev goes_on : ℕ → Bool
 goes_on byte = not (not (continues_identifier byte))

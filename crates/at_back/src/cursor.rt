@@ -1,5 +1,5 @@
 //! A text that is read from its front.
-ghost use Rattle.std.specs.Prelude.{◌≡◌, ◌≤◌, ◌^◌, length, not, position, true, false};
+ghost use Rattle.std.specs.Prelude.{◌≡◌, ◌<◌, IfSome, not, position, true, false};
 ghost use Rattle.std.specs.List.{list_all};
 ghost use Rattle.at_script.specs.Bytes as bytes;
 ghost use Rattle.at_script.specs.Words.{begins_identifier, continues_identifier};
@@ -120,7 +120,8 @@ impl<'t> Cursor<'t> {
     /// Reads a number below the bound.
     #[tactic(auto, using(crate::proofs::Runs::run_again), unfolding(at_text::specs::Readers::number_at))]
     pub fn number(&mut self, bound: u64) -> Option<u64>
-        ensures { left result self.new ≡ number_at bound self.old }
+        ensures same { left result self.new ≡ number_at bound self.old }
+        ensures below { IfSome result (λ n. n < bound) }
     {
         let number = number_of(self.run())?;
         if number < bound { Some(number) } else { None }
@@ -129,7 +130,9 @@ impl<'t> Cursor<'t> {
     /// Reads a number from 1 on, below the bound.
     #[tactic(auto, unfolding(at_text::specs::Readers::passing))]
     pub fn positive(&mut self, bound: u64) -> Option<u64>
-        ensures { left result self.new ≡ positive_at bound self.old }
+        ensures same { left result self.new ≡ positive_at bound self.old }
+        ensures some { IfSome result (λ n. 0 < n) }
+        ensures below { IfSome result (λ n. n < bound) }
     {
         let number = self.number(bound)?;
         if 0 < number { Some(number) } else { None }

@@ -57,6 +57,11 @@ impl<'s> Index<'s> {
         })
     }
 
+    /// The names are told apart. It does nothing.
+    pub fn are_told_apart(&self)
+        ensures { AreToldApart self.now }
+    {}
+
     /// The attribute name or the text that has this text.
     pub fn name(&self, text: &str) -> Option<Name>
         ensures { result ≡ place_of text.now self.now.names }

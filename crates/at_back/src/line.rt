@@ -96,8 +96,10 @@ fn local_rest(text: &mut Cursor<'_>, names: &Index<'_>, word: LocalWord) -> Opti
 fn local_at(text: &mut Cursor<'_>, names: &Index<'_>) -> Option<Local>
     ensures { left result text.new ≡ read_lines.local_at names.now text.old }
 {
-    let word = local_word_at(text)?;
-    local_rest(text, names, word)
+    match local_word_at(text) {
+        Some(word) => local_rest(text, names, word),
+        None => None,
+    }
 }
 
 /// A thread: `m`, `f`, or `t` and its number.
@@ -194,5 +196,6 @@ pub fn line_at(alloc: Global, text: &mut Cursor<'_>, names: &Index<'_>) -> Resul
     // No line stands there.
     ensures wrong { result ≡ Err PieceFault.Wrong → HasNoneAtFront names.now text.old }
 {
+    names.are_told_apart();
     line_found(alloc, text, names)
 }

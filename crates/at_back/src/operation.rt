@@ -211,6 +211,8 @@ fn op_rest(text: &mut Cursor<'_>, names: &Index<'_>, word: OpWord) -> Option<Lin
 pub fn line_op_at(text: &mut Cursor<'_>, names: &Index<'_>) -> Option<LineOp>
     ensures { left result text.new ≡ read_lines.line_op_at names.now text.old }
 {
-    let word = op_word_at(text)?;
-    op_rest(text, names, word)
+    match op_word_at(text) {
+        Some(word) => op_rest(text, names, word),
+        None => None,
+    }
 }

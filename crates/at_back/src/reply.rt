@@ -120,7 +120,9 @@ pub fn classes_at(
 {
     let mut classes = Vec::new(alloc);
     while text.begins_item() {
-        let class = there(class_item_at(text, names))?;
+        let Some(class) = class_item_at(text, names) else {
+            return Err(PieceFault::Wrong);
+        };
         add(&mut classes, class)?;
     }
     Ok(ClassList::copy_of(alloc, &classes)?)
@@ -193,6 +195,8 @@ pub fn line_reply_at(
 ) -> Result<LineReply, PieceFault>
     ensures { IfTold result (left (found result) text.new ≡ read_lines.line_reply_at names.now text.old) }
 {
-    let word = there(reply_word_at(text))?;
-    reply_rest(alloc, text, names, word)
+    match reply_word_at(text) {
+        Some(word) => reply_rest(alloc, text, names, word),
+        None => Err(PieceFault::Wrong),
+    }
 }
