@@ -1,5 +1,6 @@
 //! The names of a script, found by their texts.
-ghost use Rattle.std.specs.Prelude.{◌≡◌, IfOk};
+ghost use Rattle.std.specs.Prelude.{◌≡◌, ◌<◌, IfOk};
+ghost use Rattle.at_value.specs.Widths as widths;
 ghost use Rattle.std.specs.Option.{option_copied};
 ghost use Rattle.at_name.specs.Texts.{place_of};
 ghost use Rattle.at_script.specs.Laws.{AreIdentifiers, AreToldApart};
@@ -57,10 +58,13 @@ impl<'s> Index<'s> {
         })
     }
 
-    /// The names are told apart. It does nothing.
-    pub fn are_told_apart(&self)
-        ensures { AreToldApart self.now }
-    {}
+    /// The script, whose names are told apart.
+    pub fn script(&self) -> &'s Script
+        ensures same { result.now ≡ self.now }
+        ensures apart { AreToldApart self.now }
+    {
+        self.script
+    }
 
     /// The attribute name or the text that has this text.
     pub fn name(&self, text: &str) -> Option<Name>
@@ -104,12 +108,33 @@ impl<'s> Index<'s> {
 
 /// Puts the text with this number at the end.
 fn add<const MOST: usize>(texts: &mut Texts<MOST>, text: Option<&str>) -> Result<(), AllocError>
-    ensures { IfOk result (λ _. texts.new ≡ added MOST (option_copied text) texts.old) }
+    ensures { IfOk result (λ _. texts.new ≡ added MOST (option_copied text.entry) texts.old) }
 {
     if let Some(text) = text {
         texts.intern(text)?;
     }
     Ok(())
+}
+
+fn name_of(number: usize) -> Name
+    requires { number < widths.names }
+    ensures { result ≡ number }
+{
+    Name::new(number as u16).unwrap()
+}
+
+fn class_of(number: usize) -> Class
+    requires { number < widths.classes }
+    ensures { result ≡ number }
+{
+    Class::new(number as u16).unwrap()
+}
+
+fn func_of(number: usize) -> Func
+    requires { number < widths.functions }
+    ensures { result ≡ number }
+{
+    Func::new(number as u16).unwrap()
 }
 
 fn names_of(alloc: Global, script: &Script) -> Result<Texts<NAMES>, AllocError>
@@ -118,7 +143,7 @@ fn names_of(alloc: Global, script: &Script) -> Result<Texts<NAMES>, AllocError>
 {
     let mut texts = Texts::new(alloc);
     for number in 0..script.names() {
-        let name = Name::new(number as u16).unwrap();
+        let name = name_of(number);
         add(&mut texts, script.name_text(name))?;
     }
     Ok(texts)
@@ -130,7 +155,7 @@ fn classes_of(alloc: Global, script: &Script) -> Result<Texts<CLASSES>, AllocErr
 {
     let mut texts = Texts::new(alloc);
     for number in 0..script.classes() {
-        let class = Class::new(number as u16).unwrap();
+        let class = class_of(number);
         add(&mut texts, script.class_text(class))?;
     }
     Ok(texts)
@@ -142,7 +167,7 @@ fn funcs_of(alloc: Global, script: &Script) -> Result<Texts<FUNCS>, AllocError>
 {
     let mut texts = Texts::new(alloc);
     for number in 0..script.funcs() {
-        let func = Func::new(number as u16).unwrap();
+        let func = func_of(number);
         add(&mut texts, script.func_text(func))?;
     }
     Ok(texts)

@@ -196,6 +196,6 @@ pub fn line_at(alloc: Global, text: &mut Cursor<'_>, names: &Index<'_>) -> Resul
     // No line stands there.
     ensures wrong { result ≡ Err PieceFault.Wrong → HasNoneAtFront names.now text.old }
 {
-    names.are_told_apart();
+    let _script = names.script();
     line_found(alloc, text, names)
 }

@@ -23,4 +23,4 @@ pub returns-clause-told : goal.returns-clause-told
 returns-clause-told c = told c.args.names.now c.line_found.result c.args.text.now c.line_found.new.text c.line_found.ensures
 
 pub returns-clause-wrong : goal.returns-clause-wrong
-returns-clause-wrong c = wrong c.args.names.now c.line_found.result c.args.text.now c.line_found.new.text c.are_told_apart.ensures c.line_found.ensures
+returns-clause-wrong c = wrong c.args.names.now c.line_found.result c.args.text.now c.line_found.new.text c.script-script.ensures.apart c.line_found.ensures
