@@ -1,5 +1,5 @@
 use Rattle.std.proofs.Common.{◌≡◌, ◌<◌, ℕ, true, List, [], ◌∷◌, ◌++◌, length, map, IsTrue, refl, sym, ap, ◌∙◌, subst, arith}
-use Rattle.std.specs.Prelude.{◌||◌, Option, Some, None, IfSome, nat_lt, slice_set}
+use Rattle.std.specs.Prelude.{◌||◌, Option, Some, None, IfSome, nat_lt}
 use Rattle.std.proofs.lemmas.Bool.Decides.{nat_tests}
 use Rattle.at_value.specs.declared.limits.Limits.{Limits}
 use Rattle.at_value.specs.declared.operation.Op as op
@@ -21,7 +21,7 @@ use Rattle.at_core.specs.declared.world.Pass.{Pass}
 use Rattle.at_core.specs.Closing.{now_of, HasTypes, IsStill}
 use Rattle.at_core.specs.Locks.{holds}
 use Rattle.at_core.specs.Passes.{view, slot_at}
-use Rattle.at_core.specs.PlaceSteps.{MayCommit, place_loaded, intent_stored, written}
+use Rattle.at_core.specs.PlaceSteps.{MayCommit, place_loaded, with_word, intent_stored, written}
 use Rattle.at_core.specs.PlacePlays.{Saw}
 use Rattle.at_core.specs.Plays.{IsAlone}
 use Rattle.at_core.specs.SomeRun.{new_class}
@@ -37,12 +37,12 @@ intending v at = intent_stored (place_loaded v at) 0 16777473
 
 may_commit : (limits : Limits) (v : View) (at : List op.Op) → IsStill (first_view limits) v → at ≡ [] → holds locks.Types v ≡ true → 0 < limits.place_max → MayCommit opening (intending v at) new_class
 may_commit limits v at still none held room =
-    let words : HasWords new_class (slice_set (first_view limits).intent.words 0 16777473) = ((omega arith, (omega arith, one_base)), refl) in
+    let words : HasWords new_class (with_word (first_view limits).intent.words 0 16777473) = ((omega arith, (omega arith, one_base)), refl) in
     let yes : nat_lt 0 limits.place_max ≡ true = grind (arith, nat_tests, room) in
     let Q : IntentView × Who × List op.Op → Type 0 = λ k. (k.0.fresh || nat_lt (length k.2) k.1.limits.place_max) ≡ true in
     record {
       write = record {
-        intends = subst (λ (i : IntentView). HasWords new_class (slice_set i.words 0 16777473)) (sym still.intent) words;
+        intends = subst (λ (i : IntentView). HasWords new_class (with_word i.words 0 16777473)) (sym still.intent) words;
         fresh = subst Q (λ j. (sym still.intent j, sym still.who j, sym none j)) yes;
         write = subst (λ (h : List op.Op). IsTrue (is_write (replay opening h) new_class)) (sym none) refl;
         covers = covers_none _ _ _ refl refl;
