@@ -28,7 +28,7 @@ use Rattle.at_section.specs.Surfaces.{IsReady}
 use Rattle.at_section.proofs.Standing.{hold_missed, hold_loaded}
 
 -- what a value has to agree with beside what its lock kept
-abbrev IsBeside : lock.Lock → View → View → Type 0
+abbrev pub IsBeside : lock.Lock → View → View → Type 0
 IsBeside locks.Types v w = w.types.lists ≡ v.types.lists
 IsBeside (locks.Row o) v w = copied_heads w o ≡ copied_heads v o
 

@@ -1,11 +1,12 @@
-mod Scores
+pub mod Scores
 mod Notes
-mod Standing
-mod Holdings
-mod Settling
+pub mod Standing
+pub mod Holdings
+pub mod Settling
 mod Room
-mod Ending
-mod Begun
+pub mod Ending
+pub mod Begun
 pub mod Outside
-mod Steps
+pub mod Steps
+pub mod Quiet
 mod KeptLines

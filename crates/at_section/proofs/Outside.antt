@@ -36,7 +36,7 @@ pub shut_of : (p : Pass) (l : lock.Lock) → IsReady p → holds l (view p) ≡ 
 shut_of p locks.Types r has = r.shut
 shut_of p (locks.Row o) r has = r.shut o has
 
-are_held_as : (p q : Pass) → held (view q) ≡ held (view p) → notes q ≡ notes p → AreHeld (view p) (notes p) → AreHeld (view q) (notes q)
+pub are_held_as : (p q : Pass) → held (view q) ≡ held (view p) → notes q ≡ notes p → AreHeld (view p) (notes p) → AreHeld (view q) (notes q)
 are_held_as p q e same a = record {
   settled = subst (λ h. Every (λ n. n.active ≡ list_all h (locks_of n)) (notes q)) (sym e) (subst (λ ns. Every (λ n. n.active ≡ list_all (held (view p)) (locks_of n)) ns) (sym same) a.settled);
   exact = λ l. ap (λ h. h l) e ∙ (a.exact l ∙ sym (ap (named l) same));

@@ -3,4 +3,5 @@ pub mod Scores
 pub mod Sections
 pub mod Surfaces
 pub mod Calls
+pub mod Quiet
 pub mod Kept

@@ -6,6 +6,7 @@ ghost use Rattle.at_core.specs.declared.world.Pass as passes;
 ghost use Rattle.at_section.specs.Surfaces.{IsOutside, Surface};
 ghost use Rattle.at_section.specs.Deeds.{NoGive, NoHeld};
 ghost use Rattle.at_section.specs.Kept.{KeptIsLeftAlone};
+ghost use Rattle.at_section.specs.Quiet.{QuietStepsStay};
 ghost use Rattle.at_section.specs.Scores.{Start, opening, score};
 
 /// A section is never given back exactly where no step since its begin gives one of its locks.
@@ -30,4 +31,9 @@ pub fn outside_sections()
 /// alone from the place of its begin to that of its end.
 pub fn kept_lines()
     ensures { KeptIsLeftAlone }
+{}
+
+/// A pass stays in its sections while it neither tries to take a lock nor gives one, whatever it loads and stores.
+pub fn quiet_sections()
+    ensures { QuietStepsStay }
 {}

@@ -19,6 +19,7 @@ fn laws_hold() {
     laws::alone_sections();
     laws::outside_sections();
     laws::kept_lines();
+    laws::quiet_sections();
 }
 
 /// A world, and its first pass.

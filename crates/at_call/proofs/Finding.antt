@@ -1,0 +1,68 @@
+-- The class of an object, by its head.
+use Rattle.std.proofs.Common.{◌≡◌, ◌≢◌, ⊎_elim, inl, inr, ◌⊎◌, ℕ, zero, suc, ◌<◌, ◌≤◌, ◌%◌, Bool, true, false, true≢false, List, [], ◌∷◌, length, Option, Some, None, slice_get, refl, sym, ap, ◌∙◌, subst, arith}
+use Rattle.std.specs.Prelude.{option_map}
+use native.Mathlib.Decide.{ℕ_discrete}
+use Rattle.at_core.proofs.HeadFrames.{odd_even}
+use Rattle.at_value.specs.declared.operation.Op as op
+use Rattle.at_model.specs.declared.rows.Object.{Object}
+use Rattle.at_model.specs.History.{replay}
+use Rattle.at_model.specs.World.{World}
+use Rattle.at_view.specs.declared.view.View.{View}
+use Rattle.at_core.specs.declared.lock.Lock.TheVariants as locks
+use Rattle.at_core.specs.Heads.{class_of, shape_of, unmade, IsWhole, IsOpened}
+use Rattle.at_core.specs.HeadPlays.{SawHead}
+use Rattle.at_core.specs.Inline.{IsObjectOf}
+use Rattle.at_core.specs.Locks.{holds, AreKept}
+use Rattle.at_core.specs.Opened.{opening_of}
+use Rattle.at_core.specs.Steps.{copied_heads, IsShut}
+use Rattle.at_call.proofs.Reading.{unchanged_seen}
+
+abbrev class_at : Option Object → Option ℕ
+class_at found = option_map (λ found. found.class) found
+
+-- there is no object past the last
+pub none_past : (objects : List Object) (o : ℕ) → length objects ≤ o → slice_get objects o ≡ None
+none_past [] zero le = refl
+none_past [] (suc o) le = refl
+none_past (x ∷ objects) zero le = absurd (omega (arith, le))
+none_past (x ∷ objects) (suc o) le = none_past objects o (omega (arith, le))
+
+some_within : (objects : List Object) (o : ℕ) → o < length objects → (found : Object) × (slice_get objects o ≡ Some found)
+some_within [] o less = absurd (omega (arith, less))
+some_within (x ∷ objects) zero less = (x, refl)
+some_within (x ∷ objects) (suc o) less = some_within objects o (omega (arith, less))
+
+-- a head that is whole says the class of an object that there is
+whole_class : (w : World) (o word : ℕ) (found : Object) → slice_get w.objects o ≡ Some found → IsObjectOf w o word → found.class ≡ class_of word
+whole_class w o word found is says = dite (ℕ_discrete (shape_of word).layout unmade)
+    (λ (e : (shape_of word).layout ≡ unmade). let none = (says.absent e).1 in absurd (cc (none, is)))
+    (λ (ne : (shape_of word).layout ≢ unmade). ap class_or (sym is ∙ says.present ne))
+  where
+    class_or : Option Object → ℕ
+    class_or None = 0
+    class_or (Some x) = x.class
+
+-- so does one that is open, to who has the lock of the types
+pub class_found : (v : View) (o word : ℕ) (at : List op.Op) (keys_are : ℕ → ℕ → ℕ) → AreKept (opening_of v.who.limits) v → holds locks.Types v ≡ true → IsShut locks.Types v
+    → SawHead (opening_of v.who.limits) v o word at keys_are → o < length (replay (opening_of v.who.limits) v.history.seen).objects
+    → Some (class_of word) ≡ class_at (slice_get (replay (opening_of v.who.limits) v.history.seen).objects o)
+class_found v o word at keys_are kept types shut saw less =
+    let w = replay (opening_of v.who.limits) v.history.seen in
+    let now = replay (opening_of v.who.limits) at in
+    let same : now.objects ≡ w.objects = (unchanged_seen v at locks.Types kept saw.saw types).1 in
+    let (found, is) = some_within w.objects o less in
+    let is_now : slice_get now.objects o ≡ Some found = ap (λ (xs : List Object). slice_get xs o) same ∙ is in
+    let class : found.class ≡ class_of word = ⊎_elim
+    (λ (whole : IsWhole word). whole_class now o word found is_now (saw.object whole))
+    (λ (opened : IsOpened word). by_row found is_now opened (holds (locks.Row o) v) refl)
+    (parity word) in
+    sym (ap class_at is ∙ ap (λ (c : ℕ). Some c) class)
+  where
+    parity : (n : ℕ) → (n % 2 ≡ 0) ⊎ (n % 2 ≡ 1)
+    parity n = dite (ℕ_discrete (n % 2) 0)
+        (λ (even : n % 2 ≡ 0). inl even)
+        (λ (ne : n % 2 ≢ 0). let small = mod-lt n (omega arith) in inr (omega (arith, small, ne)))
+
+    by_row : (found : Object) → slice_get (replay (opening_of v.who.limits) at).objects o ≡ Some found → IsOpened word → (b : Bool) → holds (locks.Row o) v ≡ b → found.class ≡ class_of word
+    by_row found is opened true has = absurd (odd_even word opened (subst IsWhole (sym (saw.copy has)) (shut o has)))
+    by_row found is opened false out = saw.class opened types out found is

@@ -1,0 +1,56 @@
+-- A pass that goes on from where it was.
+use Rattle.std.proofs.Common.{◌≡◌, List, [], ◌∷◌, ◌++◌, refl, sym, ap, ◌∙◌, subst, append_assoc, append-nil}
+use mathlib.Core.List.{IsPrefix}
+use Rattle.at_core.specs.declared.lock.Lock as lock
+use Rattle.at_core.specs.declared.world.Pass.{Pass}
+use Rattle.at_core.specs.Passes.{view}
+use Rattle.at_core.proofs.Prefixes.{prefix_self, prefix_trans}
+use Rattle.at_section.specs.Calls.{Adds, IsLeft, IsSamePass}
+use Rattle.at_call.specs.UnderWay.{IsFrom, IsIdle, Rests}
+
+abbrev pub from_then : (p q r : Pass) → IsFrom p q → IsFrom q r → IsFrom p r
+from_then p q r a b = record {
+  same = record { table = b.same.table ∙ a.same.table; seat = b.same.seat ∙ a.same.seat; number = b.same.number ∙ a.same.number };
+  who = b.who ∙ a.who;
+  birth = b.birth ∙ a.birth;
+  later = prefix_trans (view p).history.seen (view q).history.seen (view r).history.seen a.later b.later;
+  joined = b.joined ∙ a.joined;
+  tags = b.tags ∙ a.tags;
+  read = b.read ∙ a.read;
+  write = b.write ∙ a.write;
+  kept = b.kept ∙ a.kept;
+  marks = a.marks ++ b.marks;
+  trace = b.trace ∙ (ap (λ t. t ++ b.marks) a.trace ∙ append_assoc (view p).trace a.marks b.marks);
+}
+
+-- a pass that began or ended a section
+abbrev pub from_left : (ls : List lock.Lock) (p q : Pass) → IsSamePass p q → IsLeft (view p) (view q) → Adds ls (view p) (view q) → IsFrom p q
+from_left ls p q same left adds = record {
+  same = same;
+  who = left.who;
+  birth = left.birth;
+  later = left.seen;
+  joined = left.joined;
+  tags = left.tags;
+  read = left.read;
+  write = left.write;
+  kept = left.kept;
+  marks = adds.marks;
+  trace = adds.trace;
+}
+
+-- one that only loaded
+abbrev pub from_rests : (p q : Pass) → Rests p q → IsFrom p q
+from_rests p q r = record {
+  same = record { table = r.same.table; seat = r.same.seat; number = r.same.number };
+  who = r.idle.who;
+  birth = ap (λ h. h.birth) r.idle.history;
+  later = subst (IsPrefix (view p).history.seen) (sym (ap (λ h. h.seen) r.idle.history)) (prefix_self (view p).history.seen);
+  joined = r.idle.joined;
+  tags = r.idle.tags;
+  read = r.idle.read;
+  write = r.idle.write;
+  kept = r.idle.kept;
+  marks = r.idle.marks;
+  trace = r.idle.trace;
+}

@@ -1,0 +1,8 @@
+pub mod Marks
+pub mod From
+pub mod Keeping
+pub mod Growing
+pub mod UnderWays
+pub mod Finding
+pub mod Reading
+pub mod Writing

@@ -1,0 +1,82 @@
+-- A call under way: the pass is in the section that the call began, and has the types in hand.
+use Rattle.std.specs.Prelude.{◌≡◌, List, [], ◌∷◌, ◌++◌, IsTrue, All}
+use mathlib.Core.List.{IsPrefix}
+use Rattle.at_model.specs.World.{World}
+use Rattle.at_model.specs.History.{replay}
+use Rattle.at_types.specs.Types.{TypesState}
+use Rattle.at_view.specs.declared.mark.Mark.{Mark}
+use Rattle.at_view.specs.declared.view.View.{View}
+use Rattle.at_core.specs.declared.lock.Lock as lock
+use Rattle.at_core.specs.declared.lock.Lock.TheVariants as locks
+use Rattle.at_core.specs.declared.world.Pass.{Pass}
+use Rattle.at_core.specs.Backed.{Has, TakesTypes, is_fast_load}
+use Rattle.at_core.specs.Locks.{hold_of, AreKept}
+use Rattle.at_core.specs.Opened.{opening_of}
+use Rattle.at_core.specs.Passes.{notes, view, IsSame, HasSameHand}
+use Rattle.at_core.specs.Rule.{TypesAgree}
+use Rattle.at_section.specs.Calls.{IsSamePass}
+use Rattle.at_section.specs.Scores.{Start}
+use Rattle.at_section.specs.Sections.{named_locks, Sections}
+
+-- the world after all writes that the pass has seen
+abbrev pub seen_world : Pass → World
+seen_world p = replay (opening_of (view p).who.limits) (view p).history.seen
+
+-- What a call leaves of the pass that makes it, at each of its moments: it is the same pass, which has gone on from where it was.
+pub record IsFrom (p q : Pass) : Type 0 where
+  pub same : IsSamePass p q
+  pub who : (view q).who ≡ (view p).who
+  pub birth : (view q).history.birth ≡ (view p).history.birth
+  pub later : IsPrefix (view p).history.seen (view q).history.seen
+  pub joined : (view q).joined ≡ (view p).joined
+  pub tags : (view q).tags ≡ (view p).tags
+  pub read : (view q).read ≡ (view p).read
+  pub write : (view q).write ≡ (view p).write
+  pub kept : (view q).kept ≡ (view p).kept
+  pub marks : List Mark
+  pub trace : (view q).trace ≡ (view p).trace ++ marks
+
+-- one of the steps from the first to the second is so
+abbrev pub HasStep : (Mark → Type 0) → Pass → Pass → Type 0
+HasStep P p q = (marks : List Mark) × ((view q).trace ≡ (view p).trace ++ marks) × Has P marks
+
+-- it made no write
+abbrev pub IsUnwritten : Pass → Pass → Type 0
+IsUnwritten p q = (view q).history.own ≡ (view p).history.own
+
+-- The call has begun a section of these locks, that of the types among them, within the sections that there were.
+pub record IsUnderWay (ls : List lock.Lock) (p q : Pass) : Type 0 where
+  pub from : IsFrom p q
+  pub took : Has TakesTypes from.marks
+  pub named : named_locks (notes q) ≡ named_locks (notes p) ++ ls ∷ []
+  pub stay : (starts : List Start) → Sections p starts → (s : Start) × Sections q (starts ++ s ∷ [])
+
+-- Each lock has kept what it protects up to all that the pass has seen. The types are those of what their lock kept, so that they
+-- may go back, and of all that the pass has seen.
+pub record HasInHand (p : Pass) (t : TypesState) : Type 0 where
+  pub kept : AreKept (opening_of (view p).who.limits) (view p)
+  pub back : TypesAgree (view p).who.limits.tags (replay (opening_of (view p).who.limits) (hold_of locks.Types (view p)).since) (view p).types.lists t
+  pub now : TypesAgree (view p).who.limits.tags (seen_world p) (view p).types.lists t
+
+-- The view has only more loads: what it has seen, its locks and the copies that it has by them are as they were.
+pub record IsIdle (v w : View) : Type 0 where
+  pub who : w.who ≡ v.who
+  pub history : w.history ≡ v.history
+  pub joined : w.joined ≡ v.joined
+  pub intent : w.intent ≡ v.intent
+  pub types : w.types ≡ v.types
+  pub holds : w.holds ≡ v.holds
+  pub rows : w.rows ≡ v.rows
+  pub tags : w.tags ≡ v.tags
+  pub read : w.read ≡ v.read
+  pub write : w.write ≡ v.write
+  pub kept : w.kept ≡ v.kept
+  pub marks : List Mark
+  pub trace : w.trace ≡ v.trace ++ marks
+  pub loads : All (λ m. IsTrue (is_fast_load m.kind)) marks
+
+-- the pass only loaded
+pub record Rests (p q : Pass) : Type 0 where
+  pub same : IsSame p q
+  pub hand : HasSameHand p q
+  pub idle : IsIdle (view p) (view q)

@@ -1,0 +1,9 @@
+//! Look-ups in classes under locks: special methods, names of classes, `super`, and orders.
+#![tactic(auto)]
+
+pub mod reading;
+mod replies;
+#[cfg(test)]
+mod tests;
+
+pub use reading::{class_get, class_of, mro, special, super_get};
