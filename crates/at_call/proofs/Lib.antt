@@ -3,6 +3,6 @@ pub mod From
 pub mod Keeping
 pub mod Growing
 pub mod UnderWays
-pub mod Finding
+pub mod Found
 pub mod Reading
 pub mod Writing

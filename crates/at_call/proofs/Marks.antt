@@ -88,11 +88,11 @@ takes_by m other before is out on = absurd (true≢false (sym on ∙ out))
 -- where the lock of the types is held after steps and wasn't before, one of them took it
 pub types_taken : (before : Held) (ms : List Mark) → before locks.Types ≡ false → held_after before ms locks.Types ≡ true → Has TakesTypes ms
 types_taken before [] out on = absurd (true≢false (sym on ∙ out))
-types_taken before (m ∷ ms) out on = by_test (held_by (deed_of m.kind) m before locks.Types) refl
+types_taken before (m ∷ ms) out on = by_test (λ is. types_taken (held_by (deed_of m.kind) m before) ms is on) (held_by (deed_of m.kind) m before locks.Types) refl
   where
-    by_test : (b : Bool) → held_by (deed_of m.kind) m before locks.Types ≡ b → Has TakesTypes (m ∷ ms)
-    by_test true is = (0, m, refl, takes_by m (deed_of m.kind) before refl out is)
-    by_test false is = let (i, n, at, p) = types_taken (held_by (deed_of m.kind) m before) ms is on in (suc i, n, at, p)
+    by_test : (held_by (deed_of m.kind) m before locks.Types ≡ false → Has TakesTypes ms) → (b : Bool) → held_by (deed_of m.kind) m before locks.Types ≡ b → Has TakesTypes (m ∷ ms)
+    by_test later true is = (0, m, refl, takes_by m (deed_of m.kind) before refl out is)
+    by_test later false is = let (i, n, at, p) = later is in (suc i, n, at, p)
 
 -- Loads are quiet
 

@@ -1,5 +1,5 @@
 -- Calls that begin, go on, and end.
-use Rattle.std.proofs.Common.{◌≡◌, ℕ, ◌==◌, Bool, true, false, ◌||◌, ◌&&◌, List, [], ◌∷◌, ◌++◌, Option, Some, None, refl, sym, ap, ◌∙◌, subst}
+use Rattle.std.proofs.Common.{◌≡◌, ℕ, ◌==◌, Bool, true, false, ◌||◌, ◌&&◌, List, [], ◌∷◌, ◌++◌, Option, Some, None, length, refl, sym, ap, ◌∙◌, subst}
 use Rattle.std.proofs.lemmas.List.{map-append}
 use Rattle.at_value.specs.declared.operation.Op as op
 use Rattle.at_value.specs.declared.reply.Answer.{Answer}
@@ -7,7 +7,14 @@ use Rattle.at_core.specs.declared.lock.Lock as lock
 use Rattle.at_core.specs.declared.lock.Lock.TheVariants as locks
 use Rattle.at_core.specs.declared.note.Note.{Note}
 use Rattle.at_core.specs.declared.world.Pass.{Pass}
-use Rattle.at_core.specs.Passes.{notes, view}
+use Rattle.at_core.specs.Passes.{notes, view, IsSame}
+use Rattle.at_core.specs.Opened.{opening_of}
+use Rattle.at_core.specs.PlacePlays.{Saw}
+use Rattle.at_core.specs.PlaceSteps.{place_loaded}
+use Rattle.at_core.specs.Steps.{mark}
+use Rattle.at_view.specs.declared.mark.StepKind.TheVariants as kinds
+use Rattle.at_view.specs.Words.{place}
+use mathlib.Core.List.{IsPrefix}
 use Rattle.at_section.specs.declared.ended.Ended.{Ended}
 use Rattle.at_section.specs.Calls.{Begins, Finishes, last_of}
 use Rattle.at_section.specs.Deeds.{held, names, word_of}
@@ -22,7 +29,7 @@ use Rattle.at_call.specs.Done.{IsAnswered, IsDone, Leaves}
 use Rattle.at_call.specs.UnderWay.{IsFrom, IsUnderWay, IsUnwritten, Rests}
 use Rattle.at_call.proofs.From.{from_left, from_rests, from_then}
 use Rattle.at_call.proofs.Growing.{answered_later}
-use Rattle.at_call.proofs.Keeping.{on_idle}
+use Rattle.at_call.proofs.Keeping.{on_idle, on_placed}
 use Rattle.at_call.proofs.Marks.{has_more, types_taken}
 
 -- Where no section names the lock of the types
@@ -52,8 +59,8 @@ none_named (n ∷ ns) plain = ap (λ x. x || named locks.Types ns) (and_none n.a
 named_pushed : (around : List Note) (n : Note) → named_locks (around ++ n ∷ []) ≡ named_locks around ++ locks_of n ∷ []
 named_pushed around n = map-append locks_of around (n ∷ [])
 
-pub under_begins : (a b : Option ℕ) (p q : Pass) (place : ℕ) → Surface p → Begins (in_order true a b) p q place → IsUnderWay (in_order true a b) p q
-under_begins a b p q place s begins =
+pub under_begins : (a b : Option ℕ) (p q : Pass) (loaded : ℕ) → Surface p → Begins (in_order true a b) p q loaded → IsUnderWay (in_order true a b) p q
+under_begins a b p q loaded s begins =
     let ls = in_order true a b in
     record {
       from = from_left ls p q begins.same begins.left begins.adds;
@@ -61,7 +68,7 @@ under_begins a b p q place s begins =
           (sym (ap (λ h. h locks.Types) begins.adds.holds) ∙ all_has (held (view q)) ls locks.Types begins.has refl);
       named = ap named_locks begins.pushed ∙ (named_pushed begins.around begins.note
           ∙ (ap (λ x. x ++ locks_of begins.note ∷ []) begins.named ∙ ap (λ (l : List lock.Lock). named_locks (notes p) ++ l ∷ []) begins.names));
-      stay = λ starts sections. (start_of (view q) place, begins.begun starts sections);
+      stay = λ starts sections. (start_of (view q) loaded, begins.begun starts sections);
     }
 
 -- It goes on by steps that neither try to take a lock nor give one

@@ -1,6 +1,7 @@
 -- The class of an object, by its head.
-use Rattle.std.proofs.Common.{◌≡◌, ◌≢◌, ⊎_elim, inl, inr, ◌⊎◌, ℕ, zero, suc, ◌<◌, ◌≤◌, ◌%◌, Bool, true, false, true≢false, List, [], ◌∷◌, length, Option, Some, None, slice_get, refl, sym, ap, ◌∙◌, subst, arith}
+use Rattle.std.proofs.Common.{◌≡◌, ◌≢◌, mod-lt, ⊎_elim, inl, inr, ◌⊎◌, ℕ, zero, suc, ◌<◌, ◌≤◌, ◌%◌, Bool, true, false, true≢false, List, [], ◌∷◌, length, Option, Some, None, slice_get, refl, sym, ap, ◌∙◌, subst, arith}
 use Rattle.std.specs.Prelude.{option_map}
+use mathlib.Core.Logic.{dite}
 use native.Mathlib.Decide.{ℕ_discrete}
 use Rattle.at_core.proofs.HeadFrames.{odd_even}
 use Rattle.at_value.specs.declared.operation.Op as op
@@ -15,9 +16,21 @@ use Rattle.at_core.specs.Inline.{IsObjectOf}
 use Rattle.at_core.specs.Locks.{holds, AreKept}
 use Rattle.at_core.specs.Opened.{opening_of}
 use Rattle.at_core.specs.Steps.{copied_heads, IsShut}
+use Rattle.std.specs.Prelude.{IsTrue}
+use Rattle.std.proofs.lemmas.List.Elements.{All-cons, All-nil}
+use Rattle.at_view.specs.declared.mark.StepKind.TheVariants as kinds
+use Rattle.at_view.specs.Words.{head}
+use Rattle.at_core.specs.declared.world.Pass.{Pass}
+use Rattle.at_core.specs.Backed.{is_fast_load}
+use Rattle.at_core.specs.HeadSteps.{head_loaded}
+use Rattle.at_core.specs.Passes.{view, IsSame, HasSameHand}
+use Rattle.at_core.specs.Steps.{mark}
+use Rattle.at_section.specs.Surfaces.{TypesSurface}
+use Rattle.at_call.specs.UnderWay.{IsIdle, Rests}
+use Rattle.at_call.proofs.Keeping.{surface_rests}
 use Rattle.at_call.proofs.Reading.{unchanged_seen}
 
-abbrev class_at : Option Object → Option ℕ
+abbrev pub class_at : Option Object → Option ℕ
 class_at found = option_map (λ found. found.class) found
 
 -- there is no object past the last
@@ -66,3 +79,30 @@ class_found v o word at keys_are kept types shut saw less =
     by_row : (found : Object) → slice_get (replay (opening_of v.who.limits) at).objects o ≡ Some found → IsOpened word → (b : Bool) → holds (locks.Row o) v ≡ b → found.class ≡ class_of word
     by_row found is opened true has = absurd (odd_even word opened (subst IsWhole (sym (saw.copy has)) (shut o has)))
     by_row found is opened false out = saw.class opened types out found is
+
+-- A pass that loaded a head
+
+pub rests_looked : (p q : Pass) (o word : ℕ) (at : List op.Op) → IsSame p q → HasSameHand p q → view q ≡ head_loaded (view p) o at word → Rests p q
+rests_looked p q o word at same hand after = record {
+  same = same;
+  hand = hand;
+  idle = subst (IsIdle (view p)) (sym after) (record {
+    who = refl;
+    history = refl;
+    joined = refl;
+    intent = refl;
+    types = refl;
+    holds = refl;
+    rows = refl;
+    tags = refl;
+    read = refl;
+    write = refl;
+    kept = refl;
+    marks = mark kinds.HeadLoad (head o) (Some word) (Some word) ∷ [];
+    trace = refl;
+    loads = All-cons (λ m. IsTrue (is_fast_load m.kind)) _ [] refl (All-nil (λ m. IsTrue (is_fast_load m.kind)));
+  });
+}
+
+pub surface_looked : (p q : Pass) (o word : ℕ) (at : List op.Op) → IsSame p q → HasSameHand p q → view q ≡ head_loaded (view p) o at word → TypesSurface p → TypesSurface q
+surface_looked p q o word at same hand after = surface_rests p q (rests_looked p q o word at same hand after)
