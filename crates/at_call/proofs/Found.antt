@@ -74,7 +74,7 @@ class_found v o word at keys_are kept types shut saw less =
     parity : (n : ℕ) → (n % 2 ≡ 0) ⊎ (n % 2 ≡ 1)
     parity n = dite (ℕ_discrete (n % 2) 0)
         (λ (even : n % 2 ≡ 0). inl even)
-        (λ (ne : n % 2 ≢ 0). let small = mod-lt n (omega arith) in inr (omega (arith, small, ne)))
+        (λ (ne : n % 2 ≢ 0). let small : n % 2 < 2 = mod-lt n (omega arith) in inr (omega (arith, small, ne)))
 
     by_row : (found : Object) → slice_get (replay (opening_of v.who.limits) at).objects o ≡ Some found → IsOpened word → (b : Bool) → holds (locks.Row o) v ≡ b → found.class ≡ class_of word
     by_row found is opened true has = absurd (odd_even word opened (subst IsWhole (sym (saw.copy has)) (shut o has)))
