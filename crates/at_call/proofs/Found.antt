@@ -1,5 +1,5 @@
 -- The class of an object, by its head.
-use Rattle.std.proofs.Common.{◌≡◌, ◌≢◌, mod-lt, ⊎_elim, inl, inr, ◌⊎◌, ℕ, zero, suc, ◌<◌, ◌≤◌, ◌%◌, Bool, true, false, true≢false, List, [], ◌∷◌, length, Option, Some, None, slice_get, refl, sym, ap, ◌∙◌, subst, arith}
+use Rattle.std.proofs.Common.{◌≡◌, ◌≢◌, mod-lt, ⊎_elim, inl, inr, ◌⊎◌, ℕ, zero, suc, ◌<◌, ◌≤◌, ◌%◌, Bool, true, false, List, [], ◌∷◌, length, Option, Some, None, slice_get, refl, sym, ap, ◌∙◌, subst, arith}
 use Rattle.std.specs.Prelude.{option_map}
 use mathlib.Core.Logic.{dite}
 use native.Mathlib.Decide.{ℕ_discrete}
@@ -15,7 +15,7 @@ use Rattle.at_core.specs.HeadPlays.{SawHead}
 use Rattle.at_core.specs.Inline.{IsObjectOf}
 use Rattle.at_core.specs.Locks.{holds, AreKept}
 use Rattle.at_core.specs.Opened.{opening_of}
-use Rattle.at_core.specs.Steps.{copied_heads, IsShut}
+use Rattle.at_core.specs.Steps.{IsShut}
 use Rattle.std.specs.Prelude.{IsTrue}
 use Rattle.std.proofs.lemmas.List.Elements.{All-cons, All-nil}
 use Rattle.at_view.specs.declared.mark.StepKind.TheVariants as kinds

@@ -1,12 +1,16 @@
 -- A pass that goes on from where it was.
-use Rattle.std.proofs.Common.{◌≡◌, List, [], ◌∷◌, ◌++◌, refl, sym, ap, ◌∙◌, subst, append_assoc, append-nil}
+use Rattle.std.proofs.Common.{List, ◌++◌, sym, ap, ◌∙◌, subst, append_assoc}
 use mathlib.Core.List.{IsPrefix}
 use Rattle.at_core.specs.declared.lock.Lock as lock
 use Rattle.at_core.specs.declared.world.Pass.{Pass}
 use Rattle.at_core.specs.Passes.{view}
+use Rattle.std.specs.Prelude.{IsTrue}
+use Rattle.std.proofs.lemmas.List.Elements.{All-append}
+use Rattle.at_core.specs.Backed.{is_fast_load}
+use Rattle.at_core.proofs.PassSteps.{same_then}
 use Rattle.at_core.proofs.Prefixes.{prefix_self, prefix_trans}
 use Rattle.at_section.specs.Calls.{Adds, IsLeft, IsSamePass}
-use Rattle.at_call.specs.UnderWay.{IsFrom, IsIdle, Rests}
+use Rattle.at_call.specs.UnderWay.{IsFrom, Rests}
 
 abbrev pub from_then : (p q r : Pass) → IsFrom p q → IsFrom q r → IsFrom p r
 from_then p q r a b = record {
@@ -53,4 +57,27 @@ from_rests p q r = record {
   kept = r.idle.kept;
   marks = r.idle.marks;
   trace = r.idle.trace;
+}
+
+-- one that only loaded, and then only loaded
+pub rests_then : (p q r : Pass) → Rests p q → Rests q r → Rests p r
+rests_then p q r a b = record {
+  same = same_then p q r a.same b.same;
+  hand = λ l. b.hand l ∙ a.hand l;
+  idle = record {
+    who = b.idle.who ∙ a.idle.who;
+    history = b.idle.history ∙ a.idle.history;
+    joined = b.idle.joined ∙ a.idle.joined;
+    intent = b.idle.intent ∙ a.idle.intent;
+    types = b.idle.types ∙ a.idle.types;
+    holds = b.idle.holds ∙ a.idle.holds;
+    rows = b.idle.rows ∙ a.idle.rows;
+    tags = b.idle.tags ∙ a.idle.tags;
+    read = b.idle.read ∙ a.idle.read;
+    write = b.idle.write ∙ a.idle.write;
+    kept = b.idle.kept ∙ a.idle.kept;
+    marks = a.idle.marks ++ b.idle.marks;
+    trace = b.idle.trace ∙ (ap (λ t. t ++ b.idle.marks) a.idle.trace ∙ append_assoc (view p).trace a.idle.marks b.idle.marks);
+    loads = All-append (λ m. IsTrue (is_fast_load m.kind)) a.idle.marks b.idle.marks a.idle.loads b.idle.loads;
+  };
 }

@@ -1,6 +1,6 @@
 -- What a longer history has where a shorter one had it.
 use Rattle.std.proofs.Common.{◌≡◌, ℕ, zero, suc, ◌-◌, ◌≤◌, Bool, true, false, true≢false, List, [], ◌∷◌, ◌++◌, length, option_to_list, slice_get, refl, sym, ap, ◌∙◌, subst, arith, append_assoc}
-use Rattle.std.specs.Prelude.{take, IsTrue}
+use Rattle.std.specs.Prelude.{take}
 use Rattle.std.proofs.lemmas.List.{take_all, take_at}
 use mathlib.Core.List.{IsPrefix}
 use Rattle.at_value.specs.declared.operation.Op as op
@@ -11,17 +11,17 @@ use Rattle.at_model.specs.History.{replay}
 use Rattle.at_model.specs.Step.{step, is_done, is_write}
 use Rattle.at_model.specs.World.{World}
 use Rattle.at_line.specs.Legal.{world_at, world_before}
-use Rattle.at_line.specs.Lines.{history_at, is_write_reply}
+use Rattle.at_line.specs.Lines.{history_at}
 use Rattle.at_line.proofs.Histories.{held_within}
 use Rattle.at_event.specs.Calls.{IsCall, IsRead}
 use Rattle.at_view.specs.declared.mark.Mark.{Mark}
 use Rattle.at_view.specs.declared.view.HistoryView.{HistoryView}
 use Rattle.at_core.specs.declared.world.Pass.{Pass}
-use Rattle.at_core.specs.Backed.{Backs, Goes, StandsAt}
+use Rattle.at_core.specs.Backed.{Goes, StandsAt}
 use Rattle.at_core.specs.Opened.{opening_of}
 use Rattle.at_core.specs.Passes.{view}
-use Rattle.at_core.proofs.Prefixes.{prefix_length, prefix_trans}
-use Rattle.at_call.specs.Done.{IsAnswered, line_of}
+use Rattle.at_core.proofs.Prefixes.{prefix_length}
+use Rattle.at_call.specs.Done.{IsAnswered}
 use Rattle.at_call.specs.UnderWay.{IsFrom, IsUnwritten}
 use Rattle.at_call.proofs.Marks.{has_more}
 

@@ -1,5 +1,5 @@
 -- What a pass has in hand and in its sections, after steps that leave its locks.
-use Rattle.std.proofs.Common.{◌≡◌, Box, Global, ℕ, ◌≤◌, true, List, [], ◌∷◌, ◌++◌, length, Some, refl, sym, ap, ◌∙◌, subst}
+use Rattle.std.proofs.Common.{◌≡◌, Box, Global, ◌≤◌, true, List, [], ◌∷◌, ◌++◌, length, Some, refl, sym, ap, ◌∙◌, subst}
 use mathlib.Core.List.{IsPrefix}
 use Rattle.at_value.specs.declared.limits.Limits.{Limits}
 use Rattle.at_value.specs.declared.operation.Op as op
@@ -21,16 +21,15 @@ use Rattle.at_core.specs.Opened.{opening_of}
 use Rattle.at_core.specs.Passes.{notes, view, IsSame, HasSameHand}
 use Rattle.at_core.specs.PlacePlays.{Saw}
 use Rattle.at_core.specs.PlaceSteps.{place_loaded}
-use Rattle.at_core.specs.Reads.{in_hand}
 use Rattle.at_core.specs.Rule.{TypesAgree}
 use Rattle.at_core.specs.declared.stored.Stored.TheVariants as stored
 use Rattle.at_core.specs.Steps.{mark}
 use Rattle.at_view.specs.declared.mark.StepKind.TheVariants as kinds
 use Rattle.at_view.specs.Words.{place}
-use Rattle.at_lock.specs.Holding.{HasValue, HasOut, IsRight}
+use Rattle.at_lock.specs.Holding.{IsRight}
 use Rattle.at_section.specs.Deeds.{held}
 use Rattle.at_section.specs.Quiet.{AreQuiet, GoesOn}
-use Rattle.at_section.specs.Surfaces.{TypesSurface, NamesNoTypes}
+use Rattle.at_section.specs.Surfaces.{TypesSurface}
 use Rattle.at_section.proofs.Begun.{kept_loaded}
 use Rattle.at_section.proofs.Holdings.{value_stays, IsBeside}
 use Rattle.at_section.proofs.Outside.{are_held_as}

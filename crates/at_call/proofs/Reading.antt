@@ -6,13 +6,13 @@ use Rattle.at_value.specs.declared.reply.Answer.{Answer}
 use Rattle.at_value.specs.declared.reply.Path as path
 use Rattle.at_value.specs.declared.reply.Path.TheVariants as paths
 use Rattle.at_model.specs.History.{replay}
-use Rattle.at_model.specs.Step.{is_done, step}
+use Rattle.at_model.specs.Step.{is_done}
 use Rattle.at_model.specs.World.{World}
 use Rattle.at_event.specs.Calls.{IsRead}
 use Rattle.at_view.specs.declared.mark.Mark.{Mark}
 use Rattle.at_view.specs.declared.mark.StepKind.TheVariants as kinds
 use Rattle.at_view.specs.declared.view.View.{View}
-use Rattle.at_view.specs.Words.{number_of, place}
+use Rattle.at_view.specs.Words.{place}
 use Rattle.at_core.specs.declared.lock.Lock as lock
 use Rattle.at_core.specs.declared.lock.Lock.TheVariants as locks
 use Rattle.at_core.specs.declared.world.Pass.{Pass}

@@ -19,14 +19,14 @@ use Rattle.at_section.specs.declared.ended.Ended.{Ended}
 use Rattle.at_section.specs.Calls.{Begins, Finishes, last_of}
 use Rattle.at_section.specs.Deeds.{held, names, word_of}
 use Rattle.at_section.specs.Quiet.{GoesOn}
-use Rattle.at_section.specs.Scores.{Start, start_of}
-use Rattle.at_section.specs.Sections.{locks_of, types_lock, row_lock, in_order, named_locks, Sections}
+use Rattle.at_section.specs.Scores.{start_of}
+use Rattle.at_section.specs.Sections.{locks_of, types_lock, row_lock, in_order, named_locks}
 use Rattle.at_section.specs.Surfaces.{named, AreSettled, NamesNoTypes, Surface, TypesSurface}
 use Rattle.at_section.proofs.Quiet.{quiet_steps_stay}
 use Rattle.at_section.proofs.Settling.{all_has, last_one}
 use Rattle.at_section.proofs.Standing.{word_apart}
 use Rattle.at_call.specs.Done.{IsAnswered, IsDone, Leaves}
-use Rattle.at_call.specs.UnderWay.{IsFrom, IsUnderWay, IsUnwritten, Rests}
+use Rattle.at_call.specs.UnderWay.{IsFrom, IsUnderWay, Rests}
 use Rattle.at_call.proofs.From.{from_left, from_rests, from_then}
 use Rattle.at_call.proofs.Growing.{answered_later}
 use Rattle.at_call.proofs.Keeping.{on_idle, on_placed}

@@ -1,12 +1,12 @@
 -- A call that intends an operation and writes it.
-use Rattle.std.proofs.Common.{◌≡◌, ℕ, suc, ◌+◌, ◌≤◌, Bool, true, false, List, [], ◌∷◌, ◌++◌, length, Some, None, inl, refl, sym, ap, ◌∙◌, subst, arith, append_assoc, append-nil}
+use Rattle.std.proofs.Common.{◌≡◌, ℕ, suc, ◌+◌, true, List, [], ◌∷◌, ◌++◌, length, Some, None, inl, refl, sym, ap, ◌∙◌, subst, arith, append_assoc, append-nil}
 use mathlib.Core.List.{IsPrefix}
 use Rattle.at_value.specs.declared.operation.Op as op
 use Rattle.at_value.specs.declared.reply.Answer.{Answer}
 use Rattle.at_value.specs.declared.reply.Path as path
 use Rattle.at_value.specs.declared.reply.Path.TheVariants as paths
 use Rattle.at_model.specs.History.{replay}
-use Rattle.at_model.specs.Step.{is_done, is_write, step}
+use Rattle.at_model.specs.Step.{is_done, step}
 use Rattle.at_view.specs.declared.mark.Mark.{Mark}
 use Rattle.at_view.specs.declared.mark.StepKind.TheVariants as kinds
 use Rattle.at_view.specs.declared.view.View.{View}
@@ -17,8 +17,8 @@ use Rattle.at_core.specs.declared.world.Pass.{Pass}
 use Rattle.at_core.specs.Backed.{Goes, StandsAt}
 use Rattle.at_core.specs.Locks.{hold_of, holds}
 use Rattle.at_core.specs.Opened.{opening_of}
-use Rattle.at_core.specs.Passes.{notes, view, IsSame}
-use Rattle.at_core.specs.PlaceSteps.{intent_stored, stamped, written}
+use Rattle.at_core.specs.Passes.{view, IsSame}
+use Rattle.at_core.specs.PlaceSteps.{intent_stored, written}
 use Rattle.at_core.specs.Steps.{mark}
 use Rattle.at_core.proofs.Committing.{held_written, hold_stamped}
 use Rattle.at_core.proofs.Prefixes.{prefix_trans}

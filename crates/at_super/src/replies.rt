@@ -1,8 +1,7 @@
 //! What a look-up replies, while the types are in hand.
-ghost use Rattle.std.specs.Prelude.{◌≡◌, Some, IfOk, length, is_some, slice_get};
+ghost use Rattle.std.specs.Prelude.{◌≡◌, IfOk};
 ghost use Rattle.at_value.specs.declared.operation.Op.TheVariants as ops;
-ghost use Rattle.at_model.specs.Attributes.{classes_after, classes_after_in};
-ghost use Rattle.at_model.specs.Step.{step};
+ghost use Rattle.at_model.specs.Step.{has_number, is_in_order, step};
 ghost use Rattle.at_model.specs.World.{order_of};
 ghost use Rattle.at_core.specs.declared.world.Pass as passes;
 ghost use Rattle.at_core.specs.Passes.{IsOf};
@@ -70,11 +69,13 @@ pub(crate) fn class_of_reply(world: &World, pass: &mut Pass, types: &Types, o: O
 
 /// Whether a class stands in an order.
 fn has_class(order: &ClassList, k: Class) -> bool
-    ensures { result ≡ is_some (classes_after k order.now) }
+    ensures { result ≡ has_number k order.now }
 {
     for i in 0..order.len() {
-        if order.at(i) == Some(k) {
-            return true;
+        if let Some(class) = order.at(i) {
+            if class == k {
+                return true;
+            }
         }
     }
     false
@@ -82,7 +83,7 @@ fn has_class(order: &ClassList, k: Class) -> bool
 
 /// Whether k stands in the order of c.
 fn is_above(types: &Types, k: Class, c: Class) -> bool
-    ensures { (p : passes.Pass) → HasInHand p types.now → result ≡ is_some (classes_after_in k (order_of (seen_world p) c)) }
+    ensures { (p : passes.Pass) → HasInHand p types.now → result ≡ is_in_order k (order_of (seen_world p) c) }
 {
     match types.order_of(c) {
         Some(order) => has_class(order, k),

@@ -1,10 +1,4 @@
-use Rattle.std.proofs.Common.{refl, ap, subst, ◌∙◌}
-use Rattle.at_core.specs.declared.lock.Lock.TheVariants as locks
-use Rattle.at_core.specs.declared.world.Pass.{Pass}
-use Rattle.at_core.specs.Passes.{view}
-use Rattle.at_core.specs.Locks.{AreKept, holds}
-use Rattle.at_core.specs.Opened.{opening_of}
-use Rattle.at_call.proofs.From.{from_then}
+use Rattle.std.proofs.Common.{refl, ap, ◌∙◌}
 use Rattle.at_call.proofs.Keeping.{hand_placed, surface_placed}
 use Rattle.at_call.proofs.Reading.{answered_read}
 use Rattle.at_call.proofs.UnderWays.{under_placed}
