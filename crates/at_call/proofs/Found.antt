@@ -40,7 +40,7 @@ none_past [] (suc o) le = refl
 none_past (x ∷ objects) zero le = absurd (omega (arith, le))
 none_past (x ∷ objects) (suc o) le = none_past objects o (omega (arith, le))
 
-some_within : (objects : List Object) (o : ℕ) → o < length objects → (found : Object) × (slice_get objects o ≡ Some found)
+pub some_within : (objects : List Object) (o : ℕ) → o < length objects → (found : Object) × (slice_get objects o ≡ Some found)
 some_within [] o less = absurd (omega (arith, less))
 some_within (x ∷ objects) zero less = (x, refl)
 some_within (x ∷ objects) (suc o) less = some_within objects o (omega (arith, less))

@@ -10,13 +10,14 @@ use Rattle.at_model.specs.Attributes.{unchanged, three_of, special_on, super_alo
 use Rattle.at_model.specs.Step.{has_number, is_in_order, is_made, step}
 use Rattle.at_model.specs.World.{World, find_by, find_in, order_of}
 use Rattle.at_types.specs.Lookups.{found_after}
-use Rattle.at_call.proofs.Found.{class_at, none_past}
+use Rattle.at_call.proofs.Found.{class_at, none_past, some_within}
 
 some_there : (objects : List Object) (o : ℕ) → nat_lt o (length objects) ≡ is_some (slice_get objects o)
-some_there [] zero = refl
-some_there [] (suc o) = refl
-some_there (x ∷ objects) zero = refl
-some_there (x ∷ objects) (suc o) = some_there objects o
+some_there objects o = by_test (nat_lt o (length objects)) refl
+  where
+    by_test : (b : Bool) → nat_lt o (length objects) ≡ b → b ≡ is_some (slice_get objects o)
+    by_test true is = let (found, at) = some_within objects o (grind (arith, nat_tests, is)) in sym (ap is_some at)
+    by_test false is = sym (ap is_some (none_past objects o (grind (arith, nat_tests, is))))
 
 -- an operation on an object replies by the object that is found, where without one it replies NoAttr
 object_step : (w : World) (o : ℕ) (f : Option Object → reply.Reply) → f None ≡ replies.NoAttr
@@ -59,7 +60,7 @@ super_along-none w o n c (Some rest) e = absurd (true≢false e)
 
 -- The reply where there is no such object, where k isn't made, where it isn't above the object's class, and else.
 module _ (w : World) (k o n : ℕ) where
-  super_effect : Option Object → reply.Reply
+  abbrev super_effect : Option Object → reply.Reply
   super_effect None = replies.NoAttr
   super_effect (Some object) = cond (not (is_made w k && true)) replies.NoClass (super_on w k o n (Some object))
 

@@ -1,5 +1,5 @@
 //! What a look-up replies, while the types are in hand.
-ghost use Rattle.std.specs.Prelude.{◌≡◌, IfOk};
+ghost use Rattle.std.specs.Prelude.{◌≡◌, ◌<◌, IfOk, length, slice_index};
 ghost use Rattle.at_value.specs.declared.operation.Op.TheVariants as ops;
 ghost use Rattle.at_model.specs.Step.{has_number, is_in_order, step};
 ghost use Rattle.at_model.specs.World.{order_of};
@@ -67,15 +67,20 @@ pub(crate) fn class_of_reply(world: &World, pass: &mut Pass, types: &Types, o: O
     }
 }
 
+fn class_at(order: &ClassList, i: usize) -> Class
+    requires { i < length order.now }
+    ensures { result ≡ slice_index order.now i }
+{
+    order.at(i).unwrap()
+}
+
 /// Whether a class stands in an order.
 fn has_class(order: &ClassList, k: Class) -> bool
     ensures { result ≡ has_number k order.now }
 {
     for i in 0..order.len() {
-        if let Some(class) = order.at(i) {
-            if class == k {
-                return true;
-            }
+        if class_at(order, i) == k {
+            return true;
         }
     }
     false

@@ -1,4 +1,4 @@
-use Rattle.std.proofs.Common.{None, refl}
+use Rattle.std.proofs.Common.{None, true, refl}
 use Rattle.at_value.specs.declared.operation.Op.TheVariants as ops
 use Rattle.at_model.proofs.OrderLaws.{no_base}
 use Rattle.at_section.specs.Sections.{in_order}

@@ -1,4 +1,4 @@
-use Rattle.std.proofs.Common.{None, true, refl, sym, subst}
+use Rattle.std.proofs.Common.{None, true, refl, sym, ◌∙◌, subst}
 use Rattle.at_value.specs.declared.operation.Op.TheVariants as ops
 use Rattle.at_model.proofs.OrderLaws.{no_base}
 use Rattle.at_section.specs.Sections.{in_order}
@@ -15,4 +15,7 @@ returns-in-Ok-clause-done g c =
     (read_at operation c.in-Ok.reply q refl (λ w o at. no_base o at) (λ w o at. no_base o at) replied)
 
 pub returns-in-Err-clause-out : goal.returns-in-Err-clause-out
-returns-in-Err-clause-out g c = c.end_call.ensures.leaves _ _ c.begin_call-types.ensures.under
+returns-in-Err-clause-out g c = (
+  c.end_call.ensures.leaves (in_order true None None) c.args.pass.now c.begin_call-types.ensures.under,
+  c.end_call.ensures.own ∙ c.begin_call-types.ensures.unwritten,
+)
