@@ -10,7 +10,9 @@ use Rattle.at_core.specs.Backed.{is_fast_load}
 use Rattle.at_core.proofs.PassSteps.{same_then}
 use Rattle.at_core.proofs.Prefixes.{prefix_self, prefix_trans}
 use Rattle.at_section.specs.Calls.{Adds, IsLeft, IsSamePass}
-use Rattle.at_call.specs.UnderWay.{IsFrom, Rests}
+use Rattle.at_view.specs.declared.mark.Mark.{Mark}
+use Rattle.at_call.specs.UnderWay.{HasStep, IsFrom, Rests}
+use Rattle.at_call.proofs.Marks.{has_more}
 
 abbrev pub from_then : (p q r : Pass) → IsFrom p q → IsFrom q r → IsFrom p r
 from_then p q r a b = record {
@@ -81,3 +83,11 @@ rests_then p q r a b = record {
     loads = All-append (λ m. IsTrue (is_fast_load m.kind)) a.idle.marks b.idle.marks a.idle.loads b.idle.loads;
   };
 }
+
+-- one of the steps, and then more steps
+pub step_more : {P : Mark → Type 0} → (p q r : Pass) → HasStep P p q → IsFrom q r → HasStep P p r
+step_more p q r (marks, trace, has) from = (
+  marks ++ from.marks,
+  from.trace ∙ (ap (λ t. t ++ from.marks) trace ∙ append_assoc (view p).trace marks from.marks),
+  has_more marks from.marks has,
+)

@@ -34,7 +34,7 @@ use Rattle.at_section.proofs.Begun.{kept_loaded}
 use Rattle.at_section.proofs.Holdings.{value_stays, IsBeside}
 use Rattle.at_section.proofs.Outside.{are_held_as}
 use Rattle.at_section.proofs.Standing.{same_held, hold_loaded}
-use Rattle.at_call.specs.UnderWay.{HasInHand, IsIdle, Rests, seen_world}
+use Rattle.at_call.specs.UnderWay.{HasInHand, IsIdle, MayGoBack, Rests, seen_world}
 use Rattle.at_call.proofs.Marks.{loads_quiet}
 
 -- Holds and copies
@@ -149,8 +149,11 @@ hand_kept p t has kept a = let same = (kept locks.Types has).unchanged in record
   };
 }
 
+pub back_held : (p q : Pass) (t : TypesState) → IsHeldBy (view p) (view q) → MayGoBack p t → MayGoBack q t
+back_held p q t h back = agree_held (view p) (view q) _ _ t h (sym (ap (λ x. x.since) (h.hold locks.Types))) back
+
 pub hand_held : (p q : Pass) (t : TypesState) → IsHeldBy (view p) (view q) → holds locks.Types (view q) ≡ true → AreKept (opening_of (view q).who.limits) (view q) → HasInHand p t → HasInHand q t
-hand_held p q t h has kept hand = hand_kept q t has kept (agree_held (view p) (view q) _ _ t h (sym (ap (λ x. x.since) (h.hold locks.Types))) hand.back)
+hand_held p q t h has kept hand = hand_kept q t has kept (back_held p q t h hand.back)
 
 -- the types behind their pointer
 pub agree_right : (v : View) (box : Box types.Types Global) → IsRight v locks.Types (stored.Types box)
@@ -159,8 +162,8 @@ agree_right v box right =
     let same : box ≡ right.0 = cc (right.1) in
     subst (λ (b : Box types.Types Global). TypesAgree v.who.limits.tags (replay (opening_of v.who.limits) (hold_of locks.Types v).since) v.types.lists b.value) (sym same) right.2
 
-pub right_agree : (p : Pass) (box : Box types.Types Global) → HasInHand p box.value → IsRight (view p) locks.Types (stored.Types box)
-right_agree p box hand = (box, refl, hand.back)
+pub right_agree : (p : Pass) (box : Box types.Types Global) → MayGoBack p box.value → IsRight (view p) locks.Types (stored.Types box)
+right_agree p box back = (box, refl, back)
 
 -- A pass that loaded the place
 

@@ -51,11 +51,14 @@ pub record IsUnderWay (ls : List lock.Lock) (p q : Pass) : Type 0 where
   pub named : named_locks (notes q) ≡ named_locks (notes p) ++ ls ∷ []
   pub stay : (starts : List Start) → Sections p starts → (s : Start) × Sections q (starts ++ s ∷ [])
 
--- Each lock has kept what it protects up to all that the pass has seen. The types are those of what their lock kept, so that they
--- may go back, and of all that the pass has seen.
+-- The types are those of what their lock kept: they may go back.
+abbrev pub MayGoBack : Pass → TypesState → Type 0
+MayGoBack p t = TypesAgree (view p).who.limits.tags (replay (opening_of (view p).who.limits) (hold_of locks.Types (view p)).since) (view p).types.lists t
+
+-- Each lock has kept what it protects up to all that the pass has seen, and the types are those of that.
 pub record HasInHand (p : Pass) (t : TypesState) : Type 0 where
   pub kept : AreKept (opening_of (view p).who.limits) (view p)
-  pub back : TypesAgree (view p).who.limits.tags (replay (opening_of (view p).who.limits) (hold_of locks.Types (view p)).since) (view p).types.lists t
+  pub back : MayGoBack p t
   pub now : TypesAgree (view p).who.limits.tags (seen_world p) (view p).types.lists t
 
 -- The view has only more loads: what it has seen, its locks and the copies that it has by them are as they were.

@@ -7,7 +7,7 @@ ghost use Rattle.at_core.specs.declared.world.Pass as passes;
 ghost use Rattle.at_core.specs.Passes.{view, IsOf};
 ghost use Rattle.at_section.specs.Surfaces.{Surface, TypesSurface};
 ghost use Rattle.at_call.specs.Done.{IsAnswered, IsDone, IsReadNow, Leaves};
-ghost use Rattle.at_call.specs.UnderWay.{HasInHand, IsFrom, IsUnderWay, IsUnwritten};
+ghost use Rattle.at_call.specs.UnderWay.{HasInHand, IsFrom, IsUnderWay, IsUnwritten, MayGoBack};
 
 use at_core::{Pass, World};
 use at_place::now;
@@ -16,12 +16,12 @@ use at_types::Types;
 use at_value::{Answer, Path, Reply};
 use std::sync::Wait;
 
-/// Ends a call: the types go back, and the locks of its section are given. A call that has been answered is done then; one that
+/// Ends a call: the types go back, which have to be those of what their lock kept, and the locks of its section are given. A call that has been answered is done then; one that
 /// hasn't written leaves the pass in the sections in which it was.
 pub fn end_call<R: Wait>(world: &World, rt: &R, pass: &mut Pass, types: Box<Types>)
     requires of { IsOf pass.old world.now }
     requires surface { TypesSurface pass.old }
-    requires hand { HasInHand pass.old types.value }
+    requires back { MayGoBack pass.old types.value }
     ensures of { IsOf pass.new world.now }
     ensures surface { Surface pass.new }
     ensures from { IsFrom pass.old pass.new }
@@ -47,6 +47,7 @@ pub fn answer<R: Wait>(
     requires hand { HasInHand pass.old types.value }
     ensures of { IsOf pass.new world.now }
     ensures surface { Surface pass.new }
+    ensures reply { result.reply ≡ reply }
     ensures own { IsUnwritten pass.old pass.new }
     ensures done { (ls : List locks.Lock) (p : passes.Pass) (operation : ops.Op)
         → IsUnderWay ls p pass.old → IsUnwritten p pass.old → IsReadNow operation reply (view pass.old)

@@ -45,6 +45,21 @@ fn apply(types: &mut Types, op: &Op) -> Result<Reply, AllocError>
     }
 }
 
+/// What the write replies. It is done to the types in hand, unless there is no place for it.
+fn attempt(types: &mut Types, op: &Op, full: bool) -> Result<Reply, AllocError>
+    requires { IsTrue (is_class_write op.now) }
+    ensures reply { IfOk result (IsReplyTo op.now types.old) }
+    ensures stepped { full ≡ false → IfOk result (IsStepped op.now types.old types.new) }
+    ensures left { full ≡ true → types.new ≡ types.old }
+    ensures err { OnErr result (types.new ≡ types.old) }
+{
+    if full {
+        types.would(op)
+    } else {
+        apply(types, op)
+    }
+}
+
 /// Whether the reply is that of a write.
 fn is_done(reply: &Reply) -> bool
     ensures { result ≡ is_write_reply reply.now }
@@ -107,12 +122,7 @@ pub(crate) fn change<R: Wait>(
     let mut types = begin_call(world, rt, pass, None, None);
     let place = now(world, pass);
     let full = place.0 >= world.limits().place_max;
-    let tried = if full {
-        types.would(op)
-    } else {
-        apply(&mut types, op)
-    };
-    let Ok(reply) = tried else {
+    let Ok(reply) = attempt(&mut types, op, full) else {
         end_call(world, rt, pass, types);
         return Err(ClassFault::NoMemory);
     };

@@ -1,5 +1,5 @@
 -- Reads that are answered by what the types in hand say.
-use Rattle.std.proofs.Common.{◌≡◌, ℕ, refl, sym, ap, ◌∙◌}
+use Rattle.std.proofs.Common.{◌≡◌, ℕ, sym, ap, ◌∙◌}
 use Rattle.std.specs.Prelude.{IsTrue, Contains}
 use Rattle.at_value.specs.declared.operation.Op as op
 use Rattle.at_value.specs.declared.reply.Reply as reply

@@ -9,10 +9,10 @@ end_call-requires-clause-surface g c =
     let (at, long, after, saw, earlier) = c.now-place.ensures.loaded in
     surface_placed c.args.pass.now c.now-place.new.pass at c.now-place.ensures.same.0 c.now-place.ensures.same.2 after c.requires.surface
 
-pub end_call-requires-clause-hand : goal.end_call-requires-clause-hand
-end_call-requires-clause-hand g c =
+pub end_call-requires-clause-back : goal.end_call-requires-clause-back
+end_call-requires-clause-back g c =
     let (at, long, after, saw, earlier) = c.now-place.ensures.loaded in
-    hand_placed c.args.pass.now c.now-place.new.pass at c.args.types.value after saw c.requires.surface.out.held c.requires.hand
+    (hand_placed c.args.pass.now c.now-place.new.pass at c.args.types.value after saw c.requires.surface.out.held c.requires.hand).back
 
 pub returns-clause-own : goal.returns-clause-own
 returns-clause-own g c =

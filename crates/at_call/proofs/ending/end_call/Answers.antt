@@ -3,7 +3,7 @@ use Rattle.at_call.proofs.UnderWays.{done_ended, from_ended, leaves_ended}
 use Rattle.at_call.proofs.ending.end_call.Goals as goal
 
 pub end_types-requires-clause-right : goal.end_types-requires-clause-right
-end_types-requires-clause-right g c = right_agree c.args.pass.now c.args.types c.requires.hand
+end_types-requires-clause-right g c = right_agree c.args.pass.now c.args.types c.requires.back
 
 pub returns-clause-from : goal.returns-clause-from
 returns-clause-from g c = from_ended c.args.pass.now c.end_types.new.pass c.end_types.result c.end_types.ensures.ended

@@ -2,7 +2,6 @@ use Rattle.std.proofs.Common.{None, true, refl}
 use Rattle.at_value.specs.declared.operation.Op.TheVariants as ops
 use Rattle.at_model.proofs.OrderLaws.{no_base}
 use Rattle.at_section.specs.Sections.{in_order}
-use Rattle.at_call.specs.UnderWay.{HasInHand}
 use Rattle.at_call.proofs.UnderWays.{under_rests}
 use Rattle.at_super.proofs.Answering.{read_now, unwritten_rests}
 use Rattle.at_super.proofs.reading.class_of.Goals as goal

@@ -1,4 +1,4 @@
-use Rattle.std.proofs.Common.{◌≡◌, Option, refl, sym, ap, ◌∙◌}
+use Rattle.std.proofs.Common.{◌≡◌, Option, sym, ap, ◌∙◌}
 use Rattle.at_value.specs.declared.value.Value as value
 use Rattle.at_desc.specs.declared.descriptor.Three.{Three}
 use Rattle.at_desc.specs.Binding.{bound_special}
