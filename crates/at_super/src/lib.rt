@@ -3,7 +3,5 @@
 
 pub mod reading;
 mod replies;
-#[cfg(test)]
-mod tests;
 
 pub use reading::{class_get, class_of, mro, special, super_get};
