@@ -152,11 +152,6 @@ own_plain locals.NotCallable h = (tt, tt)
 own_plain (locals.Worn sequence) h = absurd h
 own_plain (locals.Full place) h = absurd h
 
--- lines after others of the same block go on with its numbers
-pub numbered_both : (thread from next : ℕ) (says more : List What) → next ≡ from + length says → numbered_lines thread from (says ++ more) ≡ numbered_lines thread from says ++ numbered_lines thread next more
-numbered_both thread from next [] more e = ap (λ (n : ℕ). numbered_lines thread n more) (let z : from ≡ next = omega arith in z)
-numbered_both thread from next (w ∷ says) more e = ap (λ (rest : List Line). record { what = w; number = from; thread = thread } ∷ rest) (numbered_both thread (suc from) next says more (omega arith))
-
 -- there are at most two lines a statement that the script allows, and one more
 pub few_lines : (p : ScriptParts) (count : ℕ) (s : execution.ThreadState) → Few p count s → count ≤ most_of p
 few_lines p count s h =

@@ -5,10 +5,10 @@ use Rattle.at_thread.specs.Execution.{ThreadState, next_of}
 use Rattle.at_thread.specs.Threads.{state_of}
 use Rattle.at_thread.proofs.Steps.{Few, size, next_onward}
 use Rattle.at_thread.proofs.Leading.{start_few, step_onward}
-use Rattle.at_thread.proofs.Alone.{numbered_length}
+use Rattle.at_thread.proofs.Alone.{numbered_both, numbered_length}
 use Rattle.at_thread.specs.Runs.{numbered_lines}
 use Rattle.at_run.specs.Blocks.{IsAtStart}
-use Rattle.at_run.proofs.Turning.{leading_start, leading_turn, room_for, numbered_both}
+use Rattle.at_run.proofs.Turning.{leading_start, leading_turn, room_for}
 use Rattle.at_run.proofs.plain_run.run_block.Goals as goal
 
 few_at_start : (p : ScriptParts) (s : ThreadState) → IsAtStart s → Few p 0 s
