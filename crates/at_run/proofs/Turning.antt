@@ -14,15 +14,16 @@ use Rattle.at_model.specs.History.{replay}
 use Rattle.at_line.specs.Serial.{GoesOn, Adds, NamesNoLimit}
 use Rattle.at_world.specs.Plain.{PlainState, stepped, place_after_write}
 use Rattle.at_model.proofs.OnlyWrites.{step-left}
+use Rattle.at_script.specs.Limits as limits
 use Rattle.at_script.specs.Parts.{ScriptParts}
 use Rattle.at_thread.specs.Execution as execution
 use Rattle.at_thread.specs.Execution.{next_of, start}
 use Rattle.at_thread.specs.Executions.{Makes, Leads}
 use Rattle.at_thread.specs.Runs.{numbered_lines}
-use Rattle.at_thread.proofs.Steps.{spare, Few}
+use Rattle.at_thread.proofs.Steps.{spare, Few, AllOnward}
 use Rattle.at_thread.proofs.Leading.{leads_more}
 use Rattle.at_run.specs.Opening.{opening_of}
-use Rattle.at_run.specs.Turns.{IsPlain, Tells}
+use Rattle.at_run.specs.Turns.{IsPlain, Tells, Moves, TellsIn, HasRoom, HasRoomFor}
 use Rattle.at_run.specs.Blocks.{IsWorldOf, Becomes, Leading, most_of}
 use Rattle.at_run.proofs.Serial.{serial_append}
 
@@ -97,7 +98,7 @@ leading_start p s w = record {
 }
 
 -- a turn without a line
-pub leading_silent : (p : ScriptParts) (s : execution.ThreadState) (w : PlainState) (says : List What) (t u : execution.ThreadState) (v x : PlainState) → Leading p s w says t v → Makes (next_of p t) [] u → x ≡ v → Leading p s w says u x
+leading_silent : (p : ScriptParts) (s : execution.ThreadState) (w : PlainState) (says : List What) (t u : execution.ThreadState) (v x : PlainState) → Leading p s w says t v → Makes (next_of p t) [] u → x ≡ v → Leading p s w says u x
 leading_silent p s w says t u v x h makes same = record {
   steps = suc h.steps;
   leads = subst (λ (ws : List What). Leads p (suc h.steps) s ws u) (append-nil says) (leads_more p h.steps s says t [] u h.leads makes);
@@ -106,7 +107,7 @@ leading_silent p s w says t u v x h makes same = record {
 }
 
 -- a turn with a line
-pub leading_says : (p : ScriptParts) (s : execution.ThreadState) (w : PlainState) (says : List What) (t u : execution.ThreadState) (v x : PlainState) (l : What) → Leading p s w says t v → Makes (next_of p t) (l ∷ []) u → Tells v l x → IsPlain l
+leading_says : (p : ScriptParts) (s : execution.ThreadState) (w : PlainState) (says : List What) (t u : execution.ThreadState) (v x : PlainState) (l : What) → Leading p s w says t v → Makes (next_of p t) (l ∷ []) u → Tells v l x → IsPlain l
     → Leading p s w (says ++ l ∷ []) u x
 leading_says p s w says t u v x l h makes tells plain =
     let longer : length (says ++ l ∷ []) ≡ length says + 1 = length-append says (l ∷ []) in
@@ -126,6 +127,20 @@ leading_says p s w says t u v x l h makes tells plain =
             world = a.world;
           };
     }
+
+-- a turn after which the thread goes on
+pub leading_turn : (p : ScriptParts) (s : execution.ThreadState) (w : PlainState) (says : List What) (t u : execution.ThreadState) (v x : PlainState) (more : List What) → Leading p s w says t v → Moves p t true more u → TellsIn v more x
+    → Leading p s w (says ++ more) u x
+leading_turn p s w says t u v x [] h moves same =
+    subst (λ (ws : List What). Leading p s w ws u x) (sym (append-nil says)) (leading_silent p s w says t u v x h moves same)
+leading_turn p s w says t u v x (l ∷ []) h moves told = leading_says p s w says t u v x l h moves told.0 told.1
+leading_turn p s w says t u v x (l ∷ m ∷ more) h moves told = absurd told
+
+-- and one in which it has ended
+pub leading_end : (p : ScriptParts) (s : execution.ThreadState) (w : PlainState) (says : List What) (t u : execution.ThreadState) (v x : PlainState) (more : List What) → Leading p s w says t v → Moves p t false more u → TellsIn v more x → Leading p s w says u x
+leading_end p s w says t u v x [] h moves same =
+    subst (λ (r : execution.ThreadState). Leading p s w says r x) (sym moves.1) (subst (λ (y : PlainState). Leading p s w says t y) (sym same) h)
+leading_end p s w says t u v x (l ∷ more) h moves told = absurd cc
 
 -- what a thread says by itself is plain
 pub own_plain : (l : Local) → NamesNoLimit (whats.Local l) → IsPlain (whats.Local l)
@@ -148,6 +163,20 @@ few_lines p count s h =
     spare_most : (fs : List execution.Frame) → spare fs ≤ 1
     spare_most [] = omega arith
     spare_most (f ∷ fs) = omega arith
+
+room_by_one : (p : ScriptParts) (number first count capacity : ℕ) (t : execution.ThreadState) → Few p (suc number) t → p.budget ≤ limits.most_budget → count ≡ first + number → first + most_of p ≤ capacity → HasRoom number count capacity
+room_by_one p number first count capacity t few budget written room =
+    let most = few_lines p (suc number) t few in
+    (omega arith, omega arith)
+
+-- in a block that began with room for all its lines, there is room for the line of the next turn
+pub room_for : (p : ScriptParts) (n number first count capacity : ℕ) (next : execution.Transition) → AllOnward p n number next → p.budget ≤ limits.most_budget → count ≡ first + number → first + most_of p ≤ capacity
+    → HasRoomFor next number count capacity
+room_for p n number first count capacity execution.ended onward budget written room = tt
+room_for p n number first count capacity (execution.silent s) onward budget written room = tt
+room_for p n number first count capacity (execution.checkpoints s) onward budget written room = tt
+room_for p n number first count capacity (execution.says l s) onward budget written room = room_by_one p number first count capacity s onward.few budget written room
+room_for p n number first count capacity (execution.asks o u s) onward budget written room = room_by_one p number first count capacity (execution.dropped s) onward.1.few budget written room
 
 -- what is so of what lines say, is so of the lines
 pub all_numbered : (P : What → Type 0) (thread from : ℕ) (says : List What) → All P says → All (λ (line : Line). P line.what) (numbered_lines thread from says)

@@ -1,11 +1,11 @@
 //! Running a script on the plain data model.
 ghost use Rattle.std.specs.Prelude.{◌≡◌, ◌+◌, ◌*◌, ◌<◌, ◌≤◌, None, length, replicate, vec_capacity, IfOk};
+ghost use Rattle.at_thread.specs.Execution.{next_of};
 ghost use Rattle.at_thread.specs.Threads.{state_of};
-ghost use Rattle.at_thread.specs.Executions.{Answers};
 ghost use Rattle.at_script.specs.Limits as limits;
 ghost use Rattle.at_run.specs.LegalRun.{IsLegalRun};
 ghost use Rattle.at_run.specs.PlainRun.{IsPlainRun};
-ghost use Rattle.at_run.specs.Turns.{IsPlain, Tells, Moves, TellsIn};
+ghost use Rattle.at_run.specs.Turns.{HasRoom, HasRoomFor, IsPut, Did, Turned};
 ghost use Rattle.at_run.specs.Blocks.{IsAtStart, RunsBlock, Stands, IsWholeRun, most_of, statements_of};
 
 use at_line::{FINALLY_THREAD, Line, LineOp, LineReply, MAIN_THREAD, Ran, What};
@@ -14,16 +14,6 @@ use at_thread::{Next, ReplyUse, Thread};
 use at_value::{Path, Reply, Sequence, Value};
 use at_world::Plain;
 use std::alloc::{AllocError, Global};
-
-/// What a turn of a thread came to.
-enum Turn {
-    /// The thread has ended.
-    Ended,
-    /// Nothing to tell.
-    Silent,
-    /// A line.
-    Says(What),
-}
 
 /// Runs a script from the opening world on, each path `Locked`: `main`, then each thread in turn, then `finally`.
 /// Sections are kept, and checkpoints do nothing. The room for all lines, twice the budget and one more for each block,
@@ -124,20 +114,8 @@ fn run_block<'a>(
     ensures capacity { vec_capacity lines.new ≡ vec_capacity lines.old }
 {
     let mut number = 0;
-    loop {
-        match take_turn(plain, script, executing)? {
-            Turn::Ended => return Ok(()),
-            Turn::Silent => {}
-            Turn::Says(what) => {
-                number += 1;
-                lines.push_reserved(Line {
-                    what,
-                    number,
-                    thread,
-                });
-            }
-        }
-    }
+    while take_turn(plain, script, executing, thread, &mut number, lines)? {}
+    Ok(())
 }
 
 /// The statements of a block; none where the script has no such block.
@@ -166,39 +144,70 @@ fn most_lines(script: &Script) -> usize
     (usize::from(script.threads()) + 2) * each
 }
 
+/// Takes a turn of the thread, and puts its line, where it has one, after those that are there: whether the thread goes
+/// on.
 fn take_turn<'a>(
     plain: &mut Plain,
     script: &'a Script,
-    thread: &mut Thread<'a>,
-) -> Result<Turn, AllocError>
-    ensures moves { IfOk result (λ turn. Moves script.now (state_of thread.old) turn (state_of thread.new)) }
-    ensures tells { IfOk result (λ turn. TellsIn plain.old turn plain.new) }
+    executing: &mut Thread<'a>,
+    thread: u8,
+    number: &mut u32,
+    lines: &mut Vec<Line>,
+) -> Result<bool, AllocError>
+    requires { HasRoomFor (next_of script.now (state_of executing.old)) number.old (length lines.old.items)
+        (vec_capacity lines.old) }
+    ensures turned { IfOk result (λ goes_on. Turned script.now thread (state_of executing.old) plain.old number.old
+        lines.old.items goes_on (state_of executing.new) plain.new number.new lines.new.items) }
+    ensures capacity { vec_capacity lines.new ≡ vec_capacity lines.old }
 {
-    match thread.next(script) {
-        Next::Ended => Ok(Turn::Ended),
+    match executing.next(script) {
+        Next::Ended => return Ok(false),
         // No read of the plain data model is under way, so a checkpoint does nothing.
-        Next::Silent | Next::Checkpoint => Ok(Turn::Silent),
-        Next::Says(local) => Ok(Turn::Says(What::Local(local))),
-        Next::Asks(op, reply_use) => Ok(Turn::Says(did(plain, thread, &op, &reply_use)?)),
+        Next::Silent | Next::Checkpoint => {}
+        Next::Says(local) => put_line(What::Local(local), thread, number, lines),
+        Next::Asks(op, reply_use) => {
+            do_operation(plain, executing, &op, &reply_use, thread, number, lines)?
+        }
     }
+    Ok(true)
 }
 
-/// Does the operation that a thread asks for: what its line says.
-fn did(
+/// Does the operation that a thread asks for, and puts its line.
+fn do_operation(
     plain: &mut Plain,
-    thread: &mut Thread,
+    executing: &mut Thread,
     op: &LineOp,
     reply_use: &ReplyUse,
-) -> Result<What, AllocError>
-    ensures answers { IfOk result (λ what.
-        Answers (λ t. t ≡ state_of thread.new) op.now reply_use.now (state_of thread.old) what) }
-    ensures tells { IfOk result (λ what. Tells plain.old what plain.new × IsPlain what) }
+    thread: u8,
+    number: &mut u32,
+    lines: &mut Vec<Line>,
+) -> Result<(), AllocError>
+    requires { HasRoom number.old (length lines.old.items) (vec_capacity lines.old) }
+    ensures did { IfOk result (λ _. Did thread op.now reply_use.now (state_of executing.old) plain.old number.old
+        lines.old.items (state_of executing.new) plain.new number.new lines.new.items) }
+    ensures capacity { vec_capacity lines.new ≡ vec_capacity lines.old }
 {
     let reply = match op {
         LineOp::Of(operation) => LineReply::Of(plain.apply(operation)?),
         LineOp::Begin(_, _) => LineReply::Of(Reply::Done),
         LineOp::Finish => LineReply::Kept,
     };
-    thread.accept(reply_use, &reply);
-    Ok(What::Did(plain.place(), Path::Locked, *op, reply))
+    executing.accept(reply_use, &reply);
+    let what = What::Did(plain.place(), Path::Locked, *op, reply);
+    put_line(what, thread, number, lines);
+    Ok(())
+}
+
+/// Puts a line of the thread after those that are there: its number is one above that of the line before it.
+fn put_line(what: What, thread: u8, number: &mut u32, lines: &mut Vec<Line>)
+    requires { HasRoom number.old (length lines.old.items) (vec_capacity lines.old) }
+    ensures put { IsPut thread number.old lines.old.items what number.new lines.new.items }
+    ensures capacity { vec_capacity lines.new ≡ vec_capacity lines.old }
+{
+    *number += 1;
+    lines.push_reserved(Line {
+        what,
+        number: *number,
+        thread,
+    });
 }

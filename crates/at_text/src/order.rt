@@ -128,7 +128,7 @@ fn sorted_names(alloc: Global, names: &Script) -> Result<Vec<Name>, AllocError>
     ensures sorted { IfOk result (λ sorted. IsSortedBy (λ a b. is_lt (name_cmp names.now.names a b)) sorted.items) }
 {
     let mut sorted = all_names(alloc)?;
-    sorted.sort_unstable_by(|a, b| compare(names, *a, *b));
+    sorted.sort_by(|a, b| compare(names, *a, *b))?;
     Ok(sorted)
 }
 

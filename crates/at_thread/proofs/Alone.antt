@@ -7,10 +7,10 @@ use Rattle.at_line.specs.Kept.{whats_of_thread}
 use Rattle.at_script.specs.Parts.{ScriptParts}
 use Rattle.at_thread.specs.Runs.{numbered_lines, whole, IsRunOf}
 
--- one more line at the end
-pub numbered_more : (thread from next : ℕ) (says : List what.What) (w : what.What) → next ≡ from + length says → numbered_lines thread from (says ++ w ∷ []) ≡ numbered_lines thread from says ++ record { what = w; number = next; thread = thread } ∷ []
-numbered_more thread from next [] w e = ap (λ (n : ℕ). record { what = w; number = n; thread = thread } ∷ []) (let z : from ≡ next = omega arith in z)
-numbered_more thread from next (v ∷ says) w e = ap (λ rest. record { what = v; number = from; thread = thread } ∷ rest) (numbered_more thread (suc from) next says w (omega arith))
+-- lines after others of the same block go on with its numbers
+pub numbered_both : (thread from next : ℕ) (says more : List what.What) → next ≡ from + length says → numbered_lines thread from (says ++ more) ≡ numbered_lines thread from says ++ numbered_lines thread next more
+numbered_both thread from next [] more e = ap (λ (n : ℕ). numbered_lines thread n more) (let z : from ≡ next = omega arith in z)
+numbered_both thread from next (w ∷ says) more e = ap (λ (rest : List Line). record { what = w; number = from; thread = thread } ∷ rest) (numbered_both thread (suc from) next says more (omega arith))
 
 pub numbered_length : (thread from : ℕ) (says : List what.What) → length (numbered_lines thread from says) ≡ length says
 numbered_length thread from [] = refl

@@ -1,5 +1,6 @@
 pub mod Steps
 pub mod Saying
+mod Going
 pub mod Leading
 pub mod Determined
 pub mod Numbering

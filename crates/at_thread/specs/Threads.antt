@@ -1,5 +1,5 @@
 -- Where a thread of the code stands, and what its demands are.
-use Rattle.std.specs.Prelude.{◌≡◌, ◌∷◌, map, Result}
+use Rattle.std.specs.Prelude.{◌≡◌, Bool, true, false, List, [], ◌∷◌, map, Result}
 use Rattle.at_line.specs.declared.line.Local as local
 use Rattle.at_script.specs.declared.stmt.Stmt as stmt
 use Rattle.at_script.specs.Parts.{ScriptParts}
@@ -13,24 +13,33 @@ use Rattle.at_thread.specs.Execution.{Frame, ThreadState, Transition, ended, sil
 abbrev pub frame_of : frames.Frame → Frame
 frame_of f = record { self_arg = f.self_arg; other = f.other; arg = f.arg; rest = f.rest.now; opened = f.opened; on_return = f.on_return }
 
+-- the frames of a thread that is running, and none of one that has ended
+abbrev pub frames_of : Bool → List Frame → List Frame
+frames_of true frames = frames
+frames_of false frames = []
+
 abbrev pub state_of : threads.Thread → ThreadState
-state_of t = record { frames = map frame_of t.frames; call = t.call; variables = t.variables.items; it = t.it; begun = t.begun }
+state_of t = record { frames = frames_of t.running (frame_of t.frame ∷ map frame_of t.below); call = t.call; variables = t.variables.items; it = t.it; begun = t.begun }
 
--- with a frame in hand above the others
-abbrev pub with_frame : frames.Frame → threads.Thread → ThreadState
-with_frame f t = record { frames = frame_of f ∷ map frame_of t.frames; call = t.call; variables = t.variables.items; it = t.it; begun = t.begun }
+-- without its innermost frame
+abbrev pub left : threads.Thread → ThreadState
+left t = record (state_of t) { frames = map frame_of t.below }
 
--- What comes next of a frame that was taken from the thread: of the statements that are left in it, of a statement that it
--- has left, and of what that does.
+-- with a frame above the others
+abbrev pub entered : threads.Thread → frames.Frame → ThreadState
+entered t f = record (state_of t) { frames = frame_of f ∷ (state_of t).frames }
 
-abbrev pub next_of_frame : ScriptParts → frames.Frame → threads.Thread → Transition
-next_of_frame p f t = frame_next p (state_of t) (frame_of f) (map frame_of t.frames) f.rest.now
+-- What comes next of the innermost frame: of the statements that are left in it, of a statement that it has left, and of what
+-- that does.
 
-abbrev pub next_of_statement : ScriptParts → frames.Frame → threads.Thread → stmt.Stmt → Transition
-next_of_statement p f t s = statement_next p (with_frame f t) (frame_of f) (map frame_of t.frames) s
+abbrev pub next_of_frame : ScriptParts → threads.Thread → Transition
+next_of_frame p t = frame_next p (state_of t) (frame_of t.frame) (map frame_of t.below) t.frame.rest.now
 
-abbrev pub next_of_action : frames.Frame → threads.Thread → Result action.Action local.Local → Transition
-next_of_action f t a = action_next (with_frame f t) (frame_of f) (map frame_of t.frames) a
+abbrev pub next_of_statement : ScriptParts → threads.Thread → stmt.Stmt → Transition
+next_of_statement p t s = statement_next p (state_of t) (frame_of t.frame) (map frame_of t.below) s
+
+abbrev pub next_of_action : threads.Thread → Result action.Action local.Local → Transition
+next_of_action t a = action_next (state_of t) (frame_of t.frame) (map frame_of t.below) a
 
 -- the demand, and the state that goes on
 abbrev pub transition_of : next.Next → ThreadState → Transition

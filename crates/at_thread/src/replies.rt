@@ -104,10 +104,7 @@ impl<'a> Thread<'a> {
         let LineReply::Of(Reply::Done) = reply else {
             return;
         };
-        if let Some(mut frame) = self.frames.pop() {
-            frame.opened = true;
-            self.frames.push(frame);
-        }
+        self.set_opened(true);
     }
 
     fn accept_closed(&mut self, reply: &LineReply)

@@ -1,8 +1,8 @@
 //! A thread that executes a block. It asks no world: it says what it demands, and takes the reply.
-ghost use Rattle.std.specs.Prelude.{◌≡◌, ◌<◌, [], length, IfOk, slice_index_or};
+ghost use Rattle.std.specs.Prelude.{◌≡◌, ◌<◌, ◌≤◌, [], true, length, IfOk, slice_index_or};
 ghost use Rattle.at_thread.specs.Execution as execution;
 ghost use Rattle.at_thread.specs.Execution.{next_of, start};
-ghost use Rattle.at_thread.specs.Threads.{frame_of, state_of, with_frame, next_of_frame, next_of_statement};
+ghost use Rattle.at_thread.specs.Threads.{frame_of, state_of, left, entered, next_of_frame, next_of_statement};
 ghost use Rattle.at_thread.specs.Threads.{next_of_action, IsNext};
 
 use crate::next::{Action, Call, Next, OnReturn, ReplyUse};
@@ -14,9 +14,6 @@ use std::alloc::{AllocError, Global};
 
 /// How many calls of a thread may be active.
 const MOST_CALLS: usize = 16;
-
-/// How many frames a thread has at most: its block, and the calls.
-const MOST_FRAMES: usize = MOST_CALLS + 1;
 
 /// A block or an active call.
 #[derive(Clone, Copy)]
@@ -44,17 +41,21 @@ impl<'a> Frame<'a> {
         }
     }
 
-    fn with_rest(&self, rest: &'a [Stmt]) -> Frame<'a>
-        ensures { frame_of result ≡ record (frame_of self.now) { rest = rest.now } }
+    fn copy(&self) -> Frame<'a>
+        ensures { result ≡ self.now }
     {
-        Frame { rest, ..*self }
+        Frame { ..*self }
     }
 }
 
 /// A thread that executes a block of a script.
 #[derive(Drop)]
 pub struct Thread<'a> {
-    pub(crate) frames: Stack<Frame<'a>, MOST_FRAMES>,
+    /// Whether the block hasn't ended: otherwise no frame counts.
+    pub(crate) running: bool,
+    /// The innermost frame, which is changed in place, and those below it.
+    pub(crate) frame: Frame<'a>,
+    pub(crate) below: Stack<Frame<'a>, MOST_CALLS>,
     pub(crate) call: Option<Call>,
     pub(crate) variables: Vec<Option<Value>>,
     pub(crate) it: Value,
@@ -80,10 +81,10 @@ impl<'a> Thread<'a> {
     ) -> Result<Thread<'a>, AllocError>
         ensures { IfOk result (λ thread. state_of thread ≡ start block.now variables.items) }
     {
-        let mut frames = Stack::new(alloc)?;
-        frames.push(Frame::of_block(block));
         Ok(Thread {
-            frames,
+            running: true,
+            frame: Frame::of_block(block),
+            below: Stack::new(alloc)?,
             call: None,
             variables,
             it: Value::Nothing,
@@ -97,8 +98,9 @@ impl<'a> Thread<'a> {
         requires { length variables.now ≡ length (state_of self.old).variables }
         ensures { state_of self.new ≡ start block.now variables.now }
     {
-        self.frames.clear();
-        self.frames.push(Frame::of_block(block));
+        self.running = true;
+        self.frame = Frame::of_block(block);
+        self.below.clear();
         self.call = None;
         self.variables.copy_from_slice(variables);
         self.it = Value::Nothing;
@@ -131,35 +133,49 @@ impl<'a> Thread<'a> {
         }
     }
 
-    fn next_return(&mut self, frame: &Frame<'a>, value: &Result<Value, Local>) -> Next
-        ensures { IsNext (execution.return_next frame.now.on_return (state_of self.old) value.now) result self.new }
+    /// Leaves the innermost frame, whose block or call has ended with this value.
+    fn leave(&mut self, value: Value)
+        requires { self.old.running ≡ true }
+        ensures { state_of self.new ≡ execution.returned self.old.frame.on_return value (left self.old) }
+    {
+        let on_return = self.frame.on_return;
+        match self.below.pop() {
+            Some(frame) => self.frame = frame,
+            None => self.running = false,
+        }
+        self.end(&on_return, value);
+    }
+
+    fn next_return(&mut self, value: &Result<Value, Local>) -> Next
+        requires { self.old.running ≡ true }
+        ensures { IsNext (execution.return_next self.old.frame.on_return (left self.old) value.now) result self.new }
     {
         match value {
             Ok(value) => {
-                self.end(&frame.on_return, *value);
+                self.leave(*value);
                 Next::Silent
             }
             Err(local) => {
-                self.end(&frame.on_return, Value::Nothing);
+                self.leave(Value::Nothing);
                 Next::Says(*local)
             }
         }
     }
 
-    /// Puts a frame back above the others, with its section open, or not.
-    fn put_back(&mut self, frame: &Frame<'a>, opened: bool)
-        requires { length self.old.frames < MOST_FRAMES }
-        ensures { state_of self.new ≡ with_frame (record frame.now { opened = opened }) self.old }
+    /// Says of the innermost frame that its section is open, or that none is.
+    pub(crate) fn set_opened(&mut self, opened: bool)
+        ensures { state_of self.new ≡ record (state_of self.old) {
+          frames = execution.with_opened opened (state_of self.old).frames;
+        } }
     {
-        self.frames.push(Frame { opened, ..*frame });
+        self.frame.opened = opened;
     }
 
-    fn next_finish(&mut self, frame: &Frame<'a>) -> Next
-        requires { length self.old.frames < MOST_FRAMES }
-        ensures { IsNext (execution.finish_next (with_frame frame.now self.old) frame.now.opened) result self.new }
+    fn next_finish(&mut self) -> Next
+        ensures { IsNext (execution.finish_next (state_of self.old) self.old.frame.opened) result self.new }
     {
-        self.put_back(frame, false);
-        if frame.opened {
+        if self.frame.opened {
+            self.set_opened(false);
             Next::Asks(LineOp::Finish, ReplyUse::Close)
         } else {
             self.it = Value::Nothing;
@@ -167,59 +183,78 @@ impl<'a> Thread<'a> {
         }
     }
 
-    /// Goes on after a statement that does this, and that its frame has left.
-    fn next_of_action(&mut self, frame: &Frame<'a>, action: &Result<Action, Local>) -> Next
-        requires { length self.old.frames < MOST_FRAMES }
-        ensures { IsNext (next_of_action frame.now self.old action.now) result self.new }
+    /// Goes on after a statement that does this, and that the innermost frame has left.
+    fn next_of_action(&mut self, action: &Result<Action, Local>) -> Next
+        requires { self.old.running ≡ true }
+        ensures { IsNext (next_of_action self.old action.now) result self.new }
     {
         match action {
             Ok(Action::Bind(variable, value)) => {
-                self.put_back(frame, frame.opened);
                 self.bind(*variable, *value);
                 Next::Silent
             }
-            Ok(Action::Return(value)) => self.next_return(frame, value),
-            Ok(Action::Finish) => self.next_finish(frame),
-            Ok(Action::Checkpoint) => {
-                self.put_back(frame, frame.opened);
-                Next::Checkpoint
-            }
-            Ok(Action::Ask(request)) => {
-                self.put_back(frame, frame.opened);
-                Next::Asks(request.op, request.reply_use)
-            }
+            Ok(Action::Return(value)) => self.next_return(value),
+            Ok(Action::Finish) => self.next_finish(),
+            Ok(Action::Checkpoint) => Next::Checkpoint,
+            Ok(Action::Ask(request)) => Next::Asks(request.op, request.reply_use),
             Err(local) => {
-                self.put_back(frame, frame.opened);
                 self.it = Value::Nothing;
                 Next::Says(*local)
             }
         }
     }
 
-    /// Begins a statement that its frame has left.
-    fn next_of_statement(&mut self, script: &Script, frame: &Frame<'a>, stmt: &Stmt) -> Next
-        requires { length self.old.frames < MOST_FRAMES }
-        ensures { IsNext (next_of_statement script.now frame.now self.old stmt.now) result self.new }
+    /// Begins a statement that the innermost frame has left.
+    fn next_of_statement(&mut self, script: &Script, stmt: &Stmt) -> Next
+        requires { self.old.running ≡ true }
+        ensures { IsNext (next_of_statement script.now self.old stmt.now) result self.new }
     {
-        let action = self.action_of(script, frame, stmt);
-        self.next_of_action(frame, &action)
+        let action = self.action_of(script, &self.frame, stmt);
+        self.next_of_action(&action)
     }
 
-    /// Begins the first statement that is left in a frame, or ends the frame.
-    fn next_of_frame(&mut self, script: &Script, frame: &Frame<'a>) -> Next
-        requires { length self.old.frames < MOST_FRAMES }
-        ensures { IsNext (next_of_frame script.now frame.now self.old) result self.new }
+    /// Begins the first statement that is left in the innermost frame, or ends the frame.
+    fn next_of_frame(&mut self, script: &Script) -> Next
+        requires { self.old.running ≡ true }
+        ensures { IsNext (next_of_frame script.now self.old) result self.new }
     {
-        let Some((stmt, rest)) = frame.rest.split_first() else {
-            self.end(&frame.on_return, Value::Nothing);
+        let Some((stmt, rest)) = self.frame.rest.split_first() else {
+            self.leave(Value::Nothing);
             return Next::Silent;
         };
         if self.begun >= script.budget() {
-            self.frames.clear();
+            self.running = false;
             return Next::Says(Local::Budget);
         }
         self.begun += 1;
-        self.next_of_statement(script, &frame.with_rest(rest), stmt)
+        self.frame.rest = rest;
+        self.next_of_statement(script, stmt)
+    }
+
+    /// How many frames there are.
+    fn height(&self) -> usize
+        ensures same { result ≡ length (state_of self.now).frames }
+    {
+        if self.running {
+            self.below.len() + 1
+        } else {
+            0
+        }
+    }
+
+    /// Puts a frame above the others.
+    fn enter(&mut self, frame: &Frame<'a>)
+        requires { length (state_of self.old).frames ≤ MOST_CALLS }
+        ensures { state_of self.new ≡ entered self.old frame.now }
+    {
+        let outer = self.frame.copy();
+        if self.running {
+            self.below.push(outer);
+        } else {
+            self.below.clear();
+            self.running = true;
+        }
+        self.frame = frame.copy();
     }
 
     fn next_of_call(&mut self, script: &'a Script, call: &Call) -> Next
@@ -229,11 +264,11 @@ impl<'a> Thread<'a> {
             self.end(&call.on_return, Value::Nothing);
             return Next::Says(Local::NotCallable);
         };
-        if self.frames.len() > MOST_CALLS {
+        if self.height() > MOST_CALLS {
             self.end(&call.on_return, Value::Nothing);
             return Next::Says(Local::Depth);
         }
-        self.frames.push(Frame {
+        self.enter(&Frame {
             self_arg: call.self_arg,
             other: call.other,
             arg: call.arg,
@@ -254,9 +289,10 @@ impl<'a> Thread<'a> {
             self.call = None;
             return self.next_of_call(script, &call);
         }
-        match self.frames.pop() {
-            Some(frame) => self.next_of_frame(script, &frame),
-            None => Next::Ended,
+        if self.running {
+            self.next_of_frame(script)
+        } else {
+            Next::Ended
         }
     }
 }

@@ -1,3 +1,4 @@
 mod Definitions
+mod Getattr
 mod Rebasing
 mod Rebased

@@ -1,4 +1,5 @@
 pub mod Plain
+pub mod Reading
 pub mod Rebasing
 pub use Rattle.at_model.specs.World
 pub use Rattle.at_model.specs.Attributes

@@ -2,6 +2,7 @@
 ghost use Rattle.std.specs.Prelude.{◌≡◌, false, IfOk, IsOk};
 ghost use Rattle.at_model.specs.Attributes as attributes;
 ghost use Rattle.at_world.specs.Plain.{wants_memory};
+ghost use Rattle.at_world.specs.Reading.{asks_getattr};
 
 use super::Plain;
 use super::lookup::find_along_order;
@@ -19,8 +20,12 @@ impl Plain {
         let t = self.find(object.class, n);
         let three = self.three_of(&t);
         let own = self.own_value(&object, n);
-        let getattr = self.find(object.class, Name::getattr());
-        bind_get(t, &three, own, o, object.class, n, getattr)
+        if asks_getattr(&t, &own) {
+            let getattr = self.find(object.class, Name::getattr());
+            bind_get(t, &three, own, o, object.class, n, getattr)
+        } else {
+            bind_get(t, &three, own, o, object.class, n, None)
+        }
     }
 
     /// The look-up of a special method of an object, which passes over the object's own dictionary.
@@ -74,5 +79,16 @@ impl Plain {
             Some(order) => Ok(Reply::Order(order)),
             None => Ok(Reply::NoClass),
         }
+    }
+}
+
+/// Whether a read has to know the `__getattr__` of the class: it finds nothing, or a property without a getter.
+fn asks_getattr(t: &Option<Value>, own: &Option<Value>) -> bool
+    ensures { result ≡ asks_getattr t.now own.now }
+{
+    match t {
+        None => own.is_none(),
+        Some(Value::Prop(property)) => property.get().is_none(),
+        Some(_) => false,
     }
 }

@@ -8,4 +8,4 @@ use Rattle.at_text.proofs.order.sorted_names.Goals as goal
 
 pub returns-clause-sorted : goal.returns-clause-sorted
 returns-clause-sorted c =
-    c.sort_unstable_by.ensures.sorted (λ a b. is_lt (name_cmp c.args.names.now.names a b)) (ranks_by (name_cmp_total c.args.names.now.names) (λ n. n)) (always_returns_same _ _ _ (λ a r f called. search rules))
+    c.in_ok-sort_by.ensures.sorted (λ a b. is_lt (name_cmp c.args.names.now.names a b)) (ranks_by (name_cmp_total c.args.names.now.names) (λ n. n)) (always_returns_same _ _ _ (λ a r f called. search rules))
