@@ -122,11 +122,17 @@ fn classes_are_written_and_read(rt: HostRuntime) -> Result<(), Fail> {
         return Ok(());
     };
     let rows = [
-        (Op::Mro(Class::object()), "0 Order(ClassList { items: [0] })"),
+        (
+            Op::Mro(Class::object()),
+            "0 Order(ClassList { items: [0] })",
+        ),
         (of_one(1, 0), "1 Done"),
         (of_one(2, 0), "2 Done"),
         (Op::NewClass(class(3), two(1, 2)), "3 Done"),
-        (Op::Mro(class(3)), "3 Order(ClassList { items: [3, 1, 2, 0] })"),
+        (
+            Op::Mro(class(3)),
+            "3 Order(ClassList { items: [3, 1, 2, 0] })",
+        ),
         (Op::TypeSet(class(2), name(9), Value::Int(7)), "4 Done"),
         (Op::TypeGet(class(3), name(9)), "4 Value(Int(7))"),
         (Op::TypeGet(class(1), name(9)), "4 NoAttr"),
@@ -134,7 +140,10 @@ fn classes_are_written_and_read(rt: HostRuntime) -> Result<(), Fail> {
         (Op::TypeGet(class(3), name(9)), "5 Value(Int(8))"),
         (Op::SetBases(class(3), two(2, 1)), "6 Done"),
         (Op::TypeGet(class(3), name(9)), "6 Value(Int(7))"),
-        (Op::Mro(class(3)), "6 Order(ClassList { items: [3, 2, 1, 0] })"),
+        (
+            Op::Mro(class(3)),
+            "6 Order(ClassList { items: [3, 2, 1, 0] })",
+        ),
         (Op::TypeDel(class(2), name(9)), "7 Done"),
         (Op::TypeGet(class(3), name(9)), "7 Value(Int(8))"),
     ];
@@ -160,9 +169,18 @@ fn refusals_take_no_place(rt: HostRuntime) -> Result<(), Fail> {
         (Op::SetBases(class(2), two(0, 1)), "2 NoOrder(Class(2))"),
         (Op::Mro(class(2)), "2 Order(ClassList { items: [2, 1, 0] })"),
         (Op::SetBases(class(0), Bases::only(class(2))), "2 Immutable"),
-        (Op::TypeSet(class(0), name(9), Value::Nothing), "2 Immutable"),
-        (Op::TypeSet(class(1), name(9), Value::Class(class(5))), "2 NoClass"),
-        (Op::TypeSet(class(1), name(9), Value::Obj(object())), "2 NoAttr"),
+        (
+            Op::TypeSet(class(0), name(9), Value::Nothing),
+            "2 Immutable",
+        ),
+        (
+            Op::TypeSet(class(1), name(9), Value::Class(class(5))),
+            "2 NoClass",
+        ),
+        (
+            Op::TypeSet(class(1), name(9), Value::Obj(object())),
+            "2 NoAttr",
+        ),
         (Op::TypeDel(class(1), name(9)), "2 NoAttr"),
         (Op::TypeGet(class(5), name(9)), "2 NoClass"),
         (Op::ClassOf(object()), "2 NoAttr"),

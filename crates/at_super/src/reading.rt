@@ -19,13 +19,7 @@ use std::sync::Wait;
 /// property without a getter.
 ///
 /// After the Python language reference, "Special method lookup".
-pub fn special<R: Wait>(
-    world: &World,
-    rt: &R,
-    pass: &mut Pass,
-    o: Obj,
-    n: Name,
-) -> Answer
+pub fn special<R: Wait>(world: &World, rt: &R, pass: &mut Pass, o: Obj, n: Name) -> Answer
     requires of { IsOf pass.old world.now }
     requires surface { Surface pass.old }
     requires few { length (notes pass.old) < MOST_NOTES }
@@ -41,13 +35,7 @@ pub fn special<R: Wait>(
 /// `c.n` of a class. `NoClass` where it isn't made, and `NoAttr` where no class of its order has the name.
 ///
 /// After the Python language reference, "Invoking Descriptors".
-pub fn class_get<R: Wait>(
-    world: &World,
-    rt: &R,
-    pass: &mut Pass,
-    c: Class,
-    n: Name,
-) -> Answer
+pub fn class_get<R: Wait>(world: &World, rt: &R, pass: &mut Pass, c: Class, n: Name) -> Answer
     requires of { IsOf pass.old world.now }
     requires surface { Surface pass.old }
     requires few { length (notes pass.old) < MOST_NOTES }
@@ -61,12 +49,7 @@ pub fn class_get<R: Wait>(
 }
 
 /// `o.__class__`. `NoAttr` where there is no such object.
-pub fn class_of<R: Wait>(
-    world: &World,
-    rt: &R,
-    pass: &mut Pass,
-    o: Obj,
-) -> Answer
+pub fn class_of<R: Wait>(world: &World, rt: &R, pass: &mut Pass, o: Obj) -> Answer
     requires of { IsOf pass.old world.now }
     requires surface { Surface pass.old }
     requires few { length (notes pass.old) < MOST_NOTES }

@@ -33,7 +33,13 @@ pub(crate) fn special_reply(world: &World, pass: &mut Pass, types: &Types, o: Ob
     bind_special(t, &three, o, class)
 }
 
-pub(crate) fn class_get_reply(world: &World, pass: &mut Pass, types: &Types, c: Class, n: Name) -> Reply
+pub(crate) fn class_get_reply(
+    world: &World,
+    pass: &mut Pass,
+    types: &Types,
+    c: Class,
+    n: Name,
+) -> Reply
     requires of { IsOf pass.old world.now }
     requires surface { TypesSurface pass.old }
     requires hand { HasInHand pass.old types.now }
