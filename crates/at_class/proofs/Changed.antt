@@ -15,14 +15,13 @@ use Rattle.at_view.specs.declared.mark.StepKind.TheVariants as kinds
 use Rattle.at_view.specs.Words as words
 use Rattle.at_core.specs.declared.lock.Lock as lock
 use Rattle.at_core.specs.declared.world.Pass.{Pass}
-use Rattle.at_core.specs.Backed.{Loads}
 use Rattle.at_core.specs.Opened.{opening_of}
 use Rattle.at_core.specs.Passes.{view}
 use Rattle.at_core.specs.PlaceSteps.{place_loaded}
 use Rattle.at_core.specs.Steps.{mark}
 use Rattle.at_core.proofs.Prefixes.{prefix_length, prefix_trans}
 use Rattle.at_call.specs.Done.{IsReadNow, LeavesUnwritten}
-use Rattle.at_call.specs.UnderWay.{HasInHand, HasStep, IsFrom, IsUnderWay, seen_world}
+use Rattle.at_call.specs.UnderWay.{HasInHand, IsFrom, IsUnderWay, seen_world}
 use Rattle.at_call.proofs.From.{step_more}
 use Rattle.at_call.proofs.Growing.{world_more}
 use Rattle.at_call.proofs.Marks.{has_last}

@@ -1,13 +1,13 @@
 -- Writes of classes: they write no row, move no object, and tell no dictionary.
-use Rattle.std.proofs.Common.{◌≡◌, ℕ, true, false, true≢false, List, [], refl, sym, ap, ◌∙◌}
+use Rattle.std.proofs.Common.{◌≡◌, false, true≢false, [], refl, sym, ap, ◌∙◌}
 use Rattle.std.specs.Prelude.{IsTrue}
 use Rattle.at_value.specs.declared.operation.Op as op
 use Rattle.at_value.specs.declared.operation.Op.TheVariants as ops
 use Rattle.at_value.specs.declared.reply.Reply as reply
 use Rattle.at_model.proofs.OnlyWrites.{step-left}
-use Rattle.at_model.specs.Step.{is_done, is_write, step}
+use Rattle.at_model.specs.Step.{is_done, step}
 use Rattle.at_model.specs.World.{World}
-use Rattle.at_types.specs.Types.{is_class_write, IsReplyTo, IsStepped, StandsFor, TypesState}
+use Rattle.at_types.specs.Types.{is_class_write, IsStepped, StandsFor, TypesState}
 use Rattle.at_line.specs.Kept.{rows_of}
 use Rattle.at_core.specs.Writes.{moved_by, read_by}
 

@@ -1,15 +1,13 @@
 -- A write of classes that was committed.
-use Rattle.std.proofs.Common.{◌≡◌, ◌≢◌, ℕ, ◌≤◌, true, false, true≢false, List, [], ◌∷◌, ◌++◌, length, map, refl, sym, ap, ◌∙◌, subst}
+use Rattle.std.proofs.Common.{◌≡◌, ◌≢◌, ℕ, true, List, [], ◌∷◌, ◌++◌, length, map, refl, sym, ap, ◌∙◌, subst}
 use Rattle.std.specs.Prelude.{IsTrue, Contains}
-use mathlib.Core.List.{IsPrefix}
 use Rattle.at_value.specs.declared.operation.Op as op
 use Rattle.at_value.specs.declared.reply.Reply as reply
 use Rattle.at_model.proofs.OrderLaws.{no_base}
 use Rattle.at_model.specs.History.{replay}
-use Rattle.at_model.specs.Step.{is_done, is_write, step}
+use Rattle.at_model.specs.Step.{is_done, is_write}
 use Rattle.at_model.specs.World.{World}
 use Rattle.at_types.specs.Types.{is_class_write, IsStepped, StandsFor, TypesState}
-use Rattle.at_line.specs.Kept.{rows_of}
 use Rattle.at_view.specs.declared.mark.StepKind.TheVariants as kinds
 use Rattle.at_view.specs.declared.view.Hold.{Hold}
 use Rattle.at_view.specs.declared.view.View.{View}
@@ -25,7 +23,6 @@ use Rattle.at_core.specs.PlacePlays.{Saw}
 use Rattle.at_core.specs.PlaceSteps.{written, Intends, MayCommit}
 use Rattle.at_core.specs.Rule.{Agrees, limbo_tag, TypesAgree}
 use Rattle.at_core.specs.Steps.{copied_heads}
-use Rattle.at_core.specs.Writes.{moved_by}
 use Rattle.at_core.proofs.Committing.{held_written, hold_stamped}
 use Rattle.at_core.proofs.Giving.{agrees_later}
 use Rattle.at_core.proofs.Written.{leaves_rows, replay_paired, replay_snoc}

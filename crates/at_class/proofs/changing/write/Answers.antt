@@ -1,10 +1,8 @@
-use Rattle.std.proofs.Common.{◌≡◌, refl, sym, ap, ◌∙◌, subst}
+use Rattle.std.proofs.Common.{◌≡◌, refl, sym, ap, ◌∙◌}
 use Rattle.at_value.specs.Packing.{words_of}
 use Rattle.at_model.specs.History.{replay}
 use Rattle.at_model.specs.Step.{step}
 use Rattle.at_model.specs.World.{World}
-use Rattle.at_core.specs.declared.lock.Lock.TheVariants as locks
-use Rattle.at_core.specs.Locks.{holds}
 use Rattle.at_core.specs.Opened.{opening_of}
 use Rattle.at_core.specs.Passes.{view}
 use Rattle.at_call.specs.UnderWay.{seen_world}
