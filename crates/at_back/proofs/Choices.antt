@@ -1,6 +1,5 @@
 -- Words of a table that are looked for one after another.
 use Rattle.std.proofs.Common.{◌≡◌, ◌∙◌, ap, refl, sym, ℕ, zero, suc, ◌+◌, ◌<◌, ◌≤◌, arith, List, [], ◌∷◌, length, drop, get_or, add-one, map, slice_get, Bool, true, false, Option, Some, None}
-use Rattle.std.specs.Option.{option_map}
 use Rattle.std.proofs.lemmas.Option.{same_Some, slice_get-get_or}
 use Rattle.at_script.specs.Literals.{◌>>=◌}
 use Rattle.at_text.specs.Readers.{Reader, Row, nothing, past, chosen, choice}

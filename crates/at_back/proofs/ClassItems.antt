@@ -1,10 +1,10 @@
 -- Classes that are read one after another, each with a blank before it.
-use Rattle.std.proofs.Common.{◌≡◌, ◌∙◌, ap, refl, sym, subst, ℕ, suc, ◌+◌, ◌<◌, ◌≤◌, nat_le, arith, List, [], ◌∷◌, ◌++◌, length, length-append, true, false, cond, Option, Some, None}
+use Rattle.std.proofs.Common.{◌≡◌, ◌∙◌, ap, refl, sym, ℕ, ◌<◌, ◌≤◌, nat_le, arith, List, [], ◌∷◌, ◌++◌, length, length-append, true, false, cond, Option, Some, None}
 use Rattle.std.proofs.lemmas.Bool.{le-leb, lt-leb}
 use Rattle.at_value.specs.Widths as widths
 use Rattle.at_script.specs.Literals.{◌>>=◌}
 use Rattle.at_script.specs.Parts.{ScriptParts}
-use Rattle.at_text.specs.Values.{text_at, class_item}
+use Rattle.at_text.specs.Values.{class_item}
 use Rattle.at_text.specs.Readers.{passing}
 use Rattle.at_text.specs.ReadValues.{begins_item, class_item_at, classes_at, bases_at}
 use Rattle.at_back.proofs.Items.{onto, onto_next, onto_wrong, onto_ended, onto_none}

@@ -1,13 +1,12 @@
 -- A line is read exactly where its text stands at the front.
-use Rattle.std.proofs.Common.{◌≡◌, ◌∙◌, ap, sym, ℕ, List, ◌++◌, Option, Some, None}
+use Rattle.std.proofs.Common.{◌≡◌, ◌∙◌, ap, sym, ℕ, List, Option, Some, None}
 use Rattle.at_line.specs.Types.{Line, What}
 use Rattle.at_script.specs.Laws.{AreToldApart}
 use Rattle.at_script.specs.Parts.{ScriptParts}
-use Rattle.at_text.specs.Lines.{line_text}
 use Rattle.at_text.specs.ReadLines.{line_at}
 use Rattle.at_text.proofs.LineReads.{line_reads}
 use Rattle.at_text.proofs.OneToOne.{told}
-use Rattle.at_back.specs.Told.{IsTold, IsAtFront, HasNoneAtFront}
+use Rattle.at_back.specs.Told.{IsAtFront, HasNoneAtFront}
 use Rattle.at_back.proofs.LinesGive.{line_gives}
 
 module _ (s : ScriptParts) where

@@ -1,5 +1,5 @@
 -- What is read of a text is what stands at its front.
-use Rattle.std.proofs.Common.{◌≡◌, ◌∙◌, ap, refl, sym, subst, ℕ, zero, suc, ◌+◌, ◌<◌, ◌==◌, nat_lt, arith, List, [], ◌∷◌, ◌++◌, length, get_or, append_assoc, map, flat_map, Bool, true, false, cond, bytes_eq, decimal, Option, Some, None, inl, inr}
+use Rattle.std.proofs.Common.{◌≡◌, ◌∙◌, ap, refl, sym, subst, ℕ, zero, suc, ◌+◌, ◌<◌, ◌==◌, nat_lt, List, [], ◌∷◌, ◌++◌, length, get_or, append_assoc, map, flat_map, Bool, true, false, cond, bytes_eq, decimal, Option, Some, None, inl, inr}
 use Rattle.std.specs.Option.{option_map}
 use Rattle.std.specs.Str.Parse.{digits_value}
 use Rattle.std.specs.List.{AllByRecursion}

@@ -1,5 +1,5 @@
 -- Distinct texts that are put in one after another.
-use Rattle.std.proofs.Common.{◌≡◌, ◌∙◌, ap, refl, sym, ℕ, ◌+◌, ◌<◌, ◌≤◌, nat_lt, arith, List, [], ◌∷◌, ◌++◌, length, take, get_or, slice_get, length-take, true, false, cond, bytes_eq, Option, Some, None, true≢false}
+use Rattle.std.proofs.Common.{◌≡◌, ◌∙◌, ap, refl, sym, ℕ, ◌+◌, ◌<◌, ◌≤◌, arith, List, [], ◌∷◌, ◌++◌, length, take, get_or, slice_get, length-take, cond, bytes_eq, Option, Some, None, true≢false}
 use Rattle.std.proofs.lemmas.Bool.{lt-ltb}
 use Rattle.std.proofs.lemmas.List.{take_more, get_or-take}
 use Rattle.std.proofs.lemmas.List.Quantifiers.{position-Some}

@@ -1,5 +1,5 @@
 -- Lists that are read one thing after another.
-use Rattle.std.proofs.Common.{◌≡◌, ◌∙◌, ap, refl, sym, subst, ℕ, zero, suc, ◌+◌, ◌<◌, ◌≤◌, arith, List, [], ◌∷◌, ◌++◌, length, append_assoc, append-nil, Bool, true, false, cond, Option, Some, None, true≢false}
+use Rattle.std.proofs.Common.{◌≡◌, ◌∙◌, ap, refl, sym, ℕ, zero, suc, ◌+◌, ◌<◌, ◌≤◌, arith, List, [], ◌∷◌, ◌++◌, length, append_assoc, append-nil, Bool, true, false, cond, Option, Some, None, true≢false}
 use Rattle.std.specs.Option.{option_map}
 use Rattle.at_script.specs.Literals.{◌>>=◌}
 use Rattle.at_text.specs.Readers.{Reader, nothing, up_to, numbered}

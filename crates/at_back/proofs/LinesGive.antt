@@ -1,17 +1,16 @@
 -- What is read as an operation, a reply or a line is the text of it.
-use Rattle.std.proofs.Common.{◌≡◌, ◌∙◌, ap, refl, sym, subst, ℕ, zero, suc, ◌+◌, ◌<◌, ◌≤◌, ◌^◌, ◌==◌, nat_lt, arith, List, [], ◌∷◌, ◌++◌, append_assoc, append-nil, map, Bool, true, false, cond, codes, decimal, Option, Some, None, inl, inr, true≢false}
+use Rattle.std.proofs.Common.{◌≡◌, ◌∙◌, ap, refl, sym, subst, ℕ, ◌<◌, ◌≤◌, ◌^◌, ◌==◌, nat_lt, arith, List, [], ◌∷◌, ◌++◌, append_assoc, append-nil, map, Bool, true, false, cond, codes, decimal, Option, Some, None, inl, inr}
 use Rattle.std.proofs.lemmas.Bool.{cases_Bool, ltb-true}
 use Rattle.std.proofs.lemmas.Bool.Decides.{nat_tests}
 use Rattle.std.proofs.lemmas.Option.{same_Some}
 use Rattle.std.proofs.lemmas.List.Elements.{All-from_recursion}
-use Rattle.at_value.specs.Widths as widths
-use Rattle.at_value.specs.Types.{Op, Value, HookKind, Path}
+use Rattle.at_value.specs.Types.{Value, HookKind, Path}
 use Rattle.at_value.specs.declared.operation.Op.TheVariants as ops
 use Rattle.at_value.specs.declared.reply.Reply.TheVariants as replies
 use Rattle.at_value.specs.declared.reply.Path.TheVariants as paths
 use Rattle.at_value.specs.declared.reply.Miss.TheVariants as misses
 use Rattle.at_line.specs.Lines.{main_thread, finally_thread}
-use Rattle.at_line.specs.Types.{Line, LineOp, LineReply, Local, What}
+use Rattle.at_line.specs.Types.{Line, LineReply, What}
 use Rattle.at_line.specs.declared.line.LineOp.TheVariants as line_ops
 use Rattle.at_line.specs.declared.line.LineReply.TheVariants as line_replies
 use Rattle.at_line.specs.declared.line.Local.TheVariants as locals
@@ -26,14 +25,13 @@ use Rattle.at_text.specs.declared.words.LocalWord.{LocalWord}
 use Rattle.at_text.specs.declared.words.LocalWord.TheVariants as local_words
 use Rattle.at_text.specs.Words as words
 use Rattle.at_text.specs.Tables.{op_word, all_op_words, reply_word, all_reply_words, local_word, all_local_words, all_hooks, all_paths}
-use Rattle.at_text.specs.Values.{object_text, classes_text, value_text}
+use Rattle.at_text.specs.Values.{object_text, value_text}
 use Rattle.at_text.specs.Lines.{begin_text, line_op_text, hook_word, made_text, line_reply_text, path_item, local_text, thread_text, what_text, line_text}
-use Rattle.at_text.specs.Printable.{IsLong, IsShort, IsObject, HasClass, HasSecond, HasLineOp, HasInit, HasValue, HasLineReply, HasLocal, HasWhat}
-use Rattle.at_text.specs.Bare.{bare_path, bare_what, bare_line}
-use Rattle.at_text.specs.Readers.{Reader, nothing, made, after, before, both, choice, begins_run, begins_with, number_at, positive_at, name_at}
-use Rattle.at_text.specs.ReadValues.{object_at, value_at}
+use Rattle.at_text.specs.Printable.{IsLong, IsShort, HasClass, HasSecond, HasLineOp, HasInit, HasLineReply, HasLocal, HasWhat}
+use Rattle.at_text.specs.Bare.{bare_path, bare_what}
+use Rattle.at_text.specs.Readers.{Reader, nothing, after, begins_run, begins_with, positive_at}
 use Rattle.at_text.specs.ReadLines.{word_row, begins_object, second_at, op_rest, line_op_at, hook_at, init_at, hook_parts, reply_rest, line_reply_at, path_item_at, local_rest, local_at, thread_at, did, done_at, did_at, local_what_at, what_at, front_at, line_of, line_at}
-use Rattle.at_back.proofs.Gives.{Gives, after_gives, before_gives, passing_gives, made_gives, row_gives, both_gives, word_gives, choice_gives, RowGives, retext_gives, table_gives, number_gives, name_gives}
+use Rattle.at_back.proofs.Gives.{Gives, after_gives, before_gives, passing_gives, made_gives, row_gives, both_gives, word_gives, choice_gives, retext_gives, table_gives, number_gives, name_gives}
 use Rattle.at_back.proofs.Pieces.{object_gives, object_attribute_gives, class_attribute_gives, class_item_gives, classes_give, bases_give, value_gives, value_item_gives}
 
 -- the second object of a section, after the first

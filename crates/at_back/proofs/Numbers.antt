@@ -2,7 +2,6 @@
 use Rattle.std.proofs.Common.{◌≡◌, ◌∙◌, ap, refl, sym, subst, ℕ, zero, suc, ◌<◌, ◌≤◌, ◌^◌, ◌==◌, nat_lt, arith, List, [], ◌∷◌, length, get_or, slice_index, drop, true, false, cond, ◌&&◌, bytes_eq, decimal, Option, Some, None, Result, Ok, Err, inl, inr, true≢false, Bool}
 use Rattle.std.specs.List.{list_all}
 use Rattle.std.specs.Result.{result_ok}
-use Rattle.std.specs.Option.{option_map}
 use Rattle.std.specs.Str.Parse.{AllDigits, IsNumeral, ParsesUnsigned, digits_value, without_leading_plus}
 use Rattle.std.proofs.lemmas.Bool.{cases_Bool, ltb-true, ltb-false, lt-ltb, le-ltb, eqb-true, eq-eqb}
 use Rattle.std.proofs.lemmas.Bool.Decides.{nat_tests}
@@ -11,7 +10,7 @@ use Rattle.std.proofs.lemmas.Slice.Eq.{bytes_eq-Decides}
 use Rattle.std.proofs.lemmas.Str.Parse.{IsNumeralModel}
 use Rattle.at_script.specs.Literals.{◌>>=◌}
 use Rattle.at_script.specs.Words.{continues_identifier}
-use Rattle.at_text.specs.Readers.{run, past_run, number_of, number_below, number_at}
+use Rattle.at_text.specs.Readers.{run, number_of, number_below}
 use Rattle.at_back.specs.Left.{leads_zero}
 use Rattle.at_back.proofs.Runs.{run_continues}
 

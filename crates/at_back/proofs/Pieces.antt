@@ -1,8 +1,8 @@
 -- What is read as a value, an operation, a reply or a line is the text of it.
-use Rattle.std.proofs.Common.{◌≡◌, ◌∙◌, ap, refl, sym, subst, ℕ, zero, suc, ◌+◌, ◌<◌, ◌≤◌, ◌^◌, ◌==◌, nat_lt, nat_le, arith, List, [], ◌∷◌, ◌++◌, length, append_assoc, append-nil, flat_map, true, false, cond, ◌&&◌, bytes_eq, codes, decimal, Option, Some, None, inl, inr, true≢false, pos, negsuc, All}
+use Rattle.std.proofs.Common.{◌≡◌, ◌∙◌, ap, refl, sym, subst, ℕ, zero, suc, ◌+◌, ◌<◌, ◌^◌, nat_lt, nat_le, arith, List, ◌++◌, length, true, cond, bytes_eq, codes, decimal, Option, Some, None, inl, inr, true≢false, pos}
 use Rattle.std.specs.Option.{option_map}
 use Rattle.std.specs.List.{list_all, AllByRecursion}
-use Rattle.std.proofs.lemmas.Bool.{cases_Bool, ltb-true, leb-true}
+use Rattle.std.proofs.lemmas.Bool.{cases_Bool, leb-true}
 use Rattle.std.proofs.lemmas.Option.{same_Some}
 use Rattle.std.proofs.lemmas.List.Elements.{All-from_recursion}
 use Rattle.std.proofs.lemmas.Slice.Eq.{bytes_eq-Decides}
@@ -15,11 +15,11 @@ use Rattle.at_script.specs.Bytes as bytes
 use Rattle.at_script.specs.Words.{is_digit}
 use Rattle.at_script.specs.Parts.{ScriptParts}
 use Rattle.at_text.specs.Words as words
-use Rattle.at_text.specs.Values.{text_at, object_text, object_attribute, class_attribute, class_item, classes_text, part_text, property_text, value_text, value_item}
-use Rattle.at_text.specs.Printable.{IsObject, HasName, HasClass, HasFunc, HasPart, HasProperty, HasValue, HasBases}
-use Rattle.at_text.specs.Readers.{Reader, nothing, made, after, before, both, choice, run, past_run, begins_run, begins_with, number_below, number_at, positive_at, name_at}
-use Rattle.at_text.specs.ReadValues.{object_at, object_attribute_at, class_attribute_at, class_item_at, begins_item, classes_at, bases_at, part_at, property, property_at, negated, integer_of, named, worded, quoted_at, numbered_object_at, static_at, classm_at, marked_rows, wrapped_rows, value_at, value_item_at}
-use Rattle.at_back.proofs.Gives.{Gives, map_parts, after_gives, before_gives, passing_gives, made_gives, row_gives, both_gives, RowGives, choice_gives, run_split, number_gives, below_gives, word_gives, place_gives, name_gives, numbered_gives}
+use Rattle.at_text.specs.Values.{object_text, object_attribute, class_attribute, class_item, classes_text, part_text, value_text, value_item}
+use Rattle.at_text.specs.Printable.{IsObject, HasName, HasClass, HasPart, HasProperty, HasValue, HasBases}
+use Rattle.at_text.specs.Readers.{nothing, made, after, choice, run, past_run, begins_run, begins_with, number_below, name_at}
+use Rattle.at_text.specs.ReadValues.{object_at, object_attribute_at, class_attribute_at, class_item_at, begins_item, classes_at, bases_at, part_at, property, property_at, negated, integer_of, named, worded, marked_rows, wrapped_rows, value_at, value_item_at}
+use Rattle.at_back.proofs.Gives.{Gives, map_parts, after_gives, before_gives, passing_gives, made_gives, row_gives, both_gives, choice_gives, run_split, number_gives, below_gives, word_gives, place_gives, name_gives, numbered_gives}
 
 -- Objects, attributes and classes
 

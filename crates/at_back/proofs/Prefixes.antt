@@ -1,5 +1,5 @@
 -- A word at the front of a text.
-use Rattle.std.proofs.Common.{◌≡◌, ◌∙◌, ap, refl, sym, ℕ, ◌==◌, nat_eq, List, [], ◌∷◌, length, take, drop, true, false, cond, ◌&&◌, Option, Some, None, inl, inr, true≢false}
+use Rattle.std.proofs.Common.{◌≡◌, ◌∙◌, ap, refl, sym, ℕ, ◌==◌, nat_eq, List, [], ◌∷◌, length, take, drop, true, false, cond, ◌&&◌, Some, None, inl, inr, true≢false}
 use Rattle.std.proofs.lemmas.Bool.{cases_Bool, eqb-true, eq-eqb, false_from_ne_true}
 use lib.Pointwise.{pointwise}
 use Rattle.at_text.specs.Readers.{past}

@@ -1,5 +1,5 @@
 -- The letters, digits and `_` at the front of a text.
-use Rattle.std.proofs.Common.{◌≡◌, ◌∙◌, ap, refl, subst, sym, ℕ, ◌+◌, ◌<◌, ◌≤◌, arith, List, [], ◌∷◌, length, take, drop, Bool, true, false, cond, not, ◌&&◌, ltb, Some, None, one-add}
+use Rattle.std.proofs.Common.{◌≡◌, ◌∙◌, ap, refl, subst, ℕ, ◌+◌, ◌<◌, ◌≤◌, arith, List, [], ◌∷◌, length, take, drop, Bool, true, false, cond, not, ◌&&◌, ltb, Some, None, one-add}
 use Rattle.std.specs.List.{list_all, position, prefix_len}
 use Rattle.std.specs.Str.{IsAscii, IsUtf8}
 use Rattle.std.proofs.lemmas.Str.{IsUtf8-from_ascii}

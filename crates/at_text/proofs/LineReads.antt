@@ -19,9 +19,9 @@ use Rattle.at_script.specs.Bytes as bytes
 use Rattle.at_script.specs.Parts.{ScriptParts}
 use Rattle.at_text.specs.Words as words
 use Rattle.at_text.specs.Values.{object_text, classes_text, value_text}
-use Rattle.at_text.specs.Lines.{op_text, begin_text, line_op_text, hook_word, made_text, line_reply_text, path_word, path_item, local_text, thread_text, what_text, line_text}
+use Rattle.at_text.specs.Lines.{op_text, begin_text, line_op_text, hook_word, made_text, line_reply_text, path_item, local_text, thread_text, what_text, line_text}
 use Rattle.at_text.specs.Printable.{IsLong, IsShort, HasSecond, HasOp, HasLineOp, HasInit, HasLineReply, HasLocal, HasWhat}
-use Rattle.at_text.specs.Readers.{nothing, made, both, before, begins_run, begins_with, number_at}
+use Rattle.at_text.specs.Readers.{nothing, begins_run, begins_with}
 use Rattle.at_text.specs.Bare.{bare_path, bare_what, bare_line}
 use Rattle.at_text.specs.ReadLines.{begins_object, second_at, line_op_at, hook_at, init_at, hook_parts, line_reply_at, path_item_at, local_at, thread_at, did, done_at, did_at, local_what_at, what_at, front_at, line_of, line_at}
 use Rattle.at_text.proofs.ReaderLaws.{Reads, Anything, Ends, Breaks, Stops, Closes, breaks-end, stops-break, closes-stop, and-true, or-true, begun, same_text, after_reads, before_reads, made_reads, both_reads, digits, digits_continue, name_reads, number_reads, positive_reads}

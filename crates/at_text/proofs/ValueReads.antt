@@ -1,5 +1,5 @@
 -- Names and values are read as they were written.
-use Rattle.std.proofs.Common.{◌≡◌, ◌∙◌, ap, refl, sym, subst, ℕ, suc, ◌<◌, ◌≤◌, ◌+◌, ◌^◌, ◌==◌, nat_le, arith, List, [], ◌∷◌, ◌++◌, length, true, false, ◌&&◌, Option, Some, None, bytes_eq, codes, decimal, pos, negsuc, inl, inr, option_and_then, true≢false}
+use Rattle.std.proofs.Common.{◌≡◌, ◌∙◌, ap, refl, sym, subst, ℕ, suc, ◌<◌, ◌≤◌, ◌+◌, ◌^◌, ◌==◌, nat_le, arith, List, [], ◌∷◌, ◌++◌, length, true, false, ◌&&◌, Option, Some, None, bytes_eq, codes, decimal, pos, negsuc, inl, inr, true≢false}
 use Rattle.std.specs.List.{list_all, All, AllByRecursion}
 use Rattle.std.proofs.lemmas.Bool.{eqb-true, le-leb, false_from_ne_true}
 use Rattle.std.proofs.lemmas.Bool.Decides.{nat_tests}

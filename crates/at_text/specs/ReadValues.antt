@@ -9,7 +9,6 @@ use Rattle.at_value.specs.declared.value.Value.TheVariants.{Nothing, Int, Text, 
 use Rattle.at_name.specs.Texts.{place_of}
 use Rattle.at_script.specs.Bytes as bytes
 use Rattle.at_script.specs.Parts.{ScriptParts}
-use Rattle.at_script.specs.Literals.{◌>>=◌}
 use Rattle.at_script.specs.Words.{begins_identifier, is_digit}
 use Rattle.at_text.specs.Words as words
 use Rattle.at_text.specs.Readers.{Reader, Row, nothing, made, passing, both, after, before, choice, run, past_run, begins_run, begins_with, number_below, number_at, positive_at, name_at, numbered}

@@ -1,4 +1,4 @@
-use Rattle.std.proofs.Common.{◌≡◌, ◌∙◌, ap, arith, ◌<◌, ◌≤◌, length, slice_get}
+use Rattle.std.proofs.Common.{◌∙◌, ap, arith, ◌<◌, ◌≤◌, length, slice_get}
 use Rattle.at_value.specs.Widths as widths
 use Rattle.at_back.specs.Indexing.{added}
 use Rattle.at_back.proofs.Indexed.{added_next}

@@ -1,4 +1,4 @@
-use Rattle.std.proofs.Common.{◌≡◌, ap, sym, ℕ, List, Option, Some, None, Result, Ok, Err, IfOk}
+use Rattle.std.proofs.Common.{◌≡◌, sym, ℕ, List, Result, Ok, Err, IfOk}
 use Rattle.at_line.specs.Types.{Line}
 use Rattle.at_script.specs.Parts.{ScriptParts}
 use Rattle.at_script.specs.Laws.{AreToldApart}

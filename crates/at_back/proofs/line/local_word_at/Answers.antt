@@ -1,4 +1,3 @@
-use Rattle.std.proofs.Common.{refl, arith}
 use Rattle.at_text.specs.Tables.{local_word}
 use Rattle.at_text.specs.Tables.{all_local_words}
 use Rattle.at_back.proofs.Choices.{found_word, other_word}

@@ -1,4 +1,4 @@
-use Rattle.std.proofs.Common.{◌≡◌, ◌∙◌, ap, sym, Some}
+use Rattle.std.proofs.Common.{◌∙◌, ap, sym, Some}
 use Rattle.at_text.specs.ReadValues.{classes_at}
 use Rattle.at_back.specs.Left.{left}
 use Rattle.at_back.proofs.Items.{onto}

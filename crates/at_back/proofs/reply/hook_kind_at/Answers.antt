@@ -1,4 +1,3 @@
-use Rattle.std.proofs.Common.{refl, arith}
 use Rattle.at_text.specs.Lines.{hook_word}
 use Rattle.at_text.specs.ReadLines as read_lines
 use Rattle.at_text.specs.Tables.{all_hooks}

@@ -1,4 +1,4 @@
-use Rattle.std.proofs.Common.{◌≡◌, ◌∙◌, ap, sym, arith, [], ◌∷◌, ◌++◌, true, false, length, length-append, Some, None, Result, Ok, Err}
+use Rattle.std.proofs.Common.{◌≡◌, ◌∙◌, ap, sym, arith, [], ◌∷◌, true, false, length, length-append, Result, Ok, Err}
 use Rattle.std.specs.Result.{OnOk, OnErr, is_err}
 use Rattle.at_text.specs.ReadValues.{classes_at}
 use Rattle.at_back.specs.Left.{left}

@@ -1,4 +1,4 @@
-use Rattle.std.proofs.Common.{◌≡◌, ◌∙◌, ap, sym, length, drop, Some}
+use Rattle.std.proofs.Common.{◌≡◌, length, drop}
 use Rattle.at_back.proofs.Prefixes.{past_there, past_nowhere}
 use Rattle.at_back.proofs.cursor.Cursor.past.Goals as goal
 
