@@ -42,7 +42,7 @@ impl<'t> Cursor<'t> {
     }
 
     /// Passes over the word, where it stands at the front. Otherwise nothing changes.
-    pub fn past(&mut self, word: &[u8]) -> bool
+    pub(crate) fn past(&mut self, word: &[u8]) -> bool
         ensures word { kept result self.new ≡ past word.now self.old }
         ensures unchanged { result ≡ false → self.new ≡ self.old }
     {
@@ -56,21 +56,21 @@ impl<'t> Cursor<'t> {
     }
 
     /// Passes over the word, which has to stand at the front.
-    pub fn expect(&mut self, word: &[u8]) -> Option<()>
+    pub(crate) fn expect(&mut self, word: &[u8]) -> Option<()>
         ensures { passed result self.new ≡ past word.now self.old }
     {
         if self.past(word) { Some(()) } else { None }
     }
 
     /// Whether the byte stands at the front.
-    pub fn begins_with(&self, byte: u8) -> bool
+    pub(crate) fn begins_with(&self, byte: u8) -> bool
         ensures { result ≡ begins_with byte self.now }
     {
         begins_with(self.rest, byte)
     }
 
     /// Whether a letter, a digit or `_` stands at the front.
-    pub fn begins_run(&self) -> bool
+    pub(crate) fn begins_run(&self) -> bool
         ensures { result ≡ begins_run self.now }
     {
         match self.rest.split_first() {
@@ -80,7 +80,7 @@ impl<'t> Cursor<'t> {
     }
 
     /// Whether a blank and a name stand at the front.
-    pub fn begins_item(&self) -> bool
+    pub(crate) fn begins_item(&self) -> bool
         ensures { result ≡ begins_item self.now }
     {
         match self.rest.split_first() {
@@ -90,7 +90,7 @@ impl<'t> Cursor<'t> {
     }
 
     /// Whether a blank and an object stand at the front.
-    pub fn begins_object(&self) -> bool
+    pub(crate) fn begins_object(&self) -> bool
         ensures { result ≡ begins_object self.now }
     {
         match self.rest.split_first() {
@@ -100,7 +100,7 @@ impl<'t> Cursor<'t> {
     }
 
     /// Whether a `:` follows the letters, digits and `_` at the front.
-    pub fn wraps(&self) -> bool
+    pub(crate) fn wraps(&self) -> bool
         ensures { result ≡ begins_with bytes.colon (past_run self.now) }
     {
         let (_, rest) = split_run(self.rest);
@@ -108,7 +108,7 @@ impl<'t> Cursor<'t> {
     }
 
     /// Takes the letters, digits and `_` at the front.
-    pub fn run(&mut self) -> &'t str
+    pub(crate) fn run(&mut self) -> &'t str
         ensures word { result.now ≡ run self.old }
         ensures rest { self.new ≡ past_run self.old }
     {
@@ -119,7 +119,7 @@ impl<'t> Cursor<'t> {
 
     /// Reads a number below the bound.
     #[tactic(auto, using(crate::proofs::Runs::run_again), unfolding(at_text::specs::Readers::number_at))]
-    pub fn number(&mut self, bound: u64) -> Option<u64>
+    pub(crate) fn number(&mut self, bound: u64) -> Option<u64>
         ensures same { left result self.new ≡ number_at bound self.old }
         ensures below { IfSome result (λ n. n < bound) }
     {
@@ -129,7 +129,7 @@ impl<'t> Cursor<'t> {
 
     /// Reads a number from 1 on, below the bound.
     #[tactic(auto, unfolding(at_text::specs::Readers::passing))]
-    pub fn positive(&mut self, bound: u64) -> Option<u64>
+    pub(crate) fn positive(&mut self, bound: u64) -> Option<u64>
         ensures same { left result self.new ≡ positive_at bound self.old }
         ensures some { IfSome result (λ n. 0 < n) }
         ensures below { IfSome result (λ n. n < bound) }

@@ -4,7 +4,6 @@ ghost use Rattle.at_value.specs.Widths as widths;
 ghost use Rattle.std.specs.Option.{option_copied};
 ghost use Rattle.at_name.specs.Texts.{place_of};
 ghost use Rattle.at_script.specs.Laws.{AreIdentifiers, AreToldApart};
-ghost use Rattle.at_text.specs.Values.{text_at};
 ghost use Rattle.at_back.specs.Indexing.{added};
 
 use at_name::Texts;
@@ -59,7 +58,7 @@ impl<'s> Index<'s> {
     }
 
     /// The script, whose names are told apart.
-    pub fn script(&self) -> &'s Script
+    pub(crate) fn script(&self) -> &'s Script
         ensures same { result.now ≡ self.now }
         ensures apart { AreToldApart self.now }
     {
@@ -67,42 +66,32 @@ impl<'s> Index<'s> {
     }
 
     /// The attribute name or the text that has this text.
-    pub fn name(&self, text: &str) -> Option<Name>
+    pub(crate) fn name(&self, text: &str) -> Option<Name>
         ensures { result ≡ place_of text.now self.now.names }
     {
         Name::new(self.names.place_of(text)? as u16)
     }
 
     /// The class of this name.
-    pub fn class(&self, text: &str) -> Option<Class>
+    pub(crate) fn class(&self, text: &str) -> Option<Class>
         ensures { result ≡ place_of text.now self.now.classes }
     {
         Class::new(self.classes.place_of(text)? as u16)
     }
 
     /// The function of this name.
-    pub fn func(&self, text: &str) -> Option<Func>
+    pub(crate) fn func(&self, text: &str) -> Option<Func>
         ensures { result ≡ place_of text.now self.now.funcs }
     {
         Func::new(self.funcs.place_of(text)? as u16)
     }
 
     /// The variable of this name.
-    pub fn var(&self, text: &str) -> Option<u16>
+    pub(crate) fn var(&self, text: &str) -> Option<u16>
         ensures { result ≡ place_of text.now self.now.vars }
     {
         let place = self.vars.place_of(text)?;
         Some(place as u16)
-    }
-
-    /// The text of a name, and nothing where the script has no such name.
-    pub fn text(&self, name: Name) -> &str
-        ensures { result.now ≡ text_at self.now.names name }
-    {
-        match self.script.name_text(name) {
-            Some(text) => text,
-            None => "",
-        }
     }
 }
 
