@@ -1,5 +1,5 @@
 -- Final namespaces and whole transcripts are read as they were written.
-use Rattle.std.proofs.Common.{◌≡◌, ◌∙◌, ap, refl, sym, subst, ℕ, ◌+◌, ◌≤◌, ◌==◌, arith, List, [], ◌∷◌, ◌++◌, length, map, flat_map, true, false, cond, Option, Some, codes, decimal, append-nil, append_assoc, All, length-append, take_at, drop_at}
+use Rattle.std.proofs.Common.{◌≡◌, ◌∙◌, ap, refl, sym, subst, ℕ, ◌+◌, ◌≤◌, ◌^◌, ◌==◌, arith, List, [], ◌∷◌, ◌++◌, length, map, flat_map, true, false, cond, Option, Some, codes, decimal, append-nil, append_assoc, All, length-append, take_at, drop_at}
 use Rattle.std.specs.List.{AllByRecursion}
 use Rattle.std.specs.Ordering.{nat_cmp, is_lt}
 use Rattle.std.specs.Cmp.Lexicographic.{slice_cmp}
@@ -159,7 +159,7 @@ module _ (s : ScriptParts) (told : IsTold s) where
 
   lines_reads : (lines : List Line) → IsLong (length lines) → AllByRecursion LineReads lines → Reads (lines_at s) (lines_text s lines) (map bare_line lines) Anything
   lines_reads lines few all =
-      let head = before_reads (codes "\n") (λ y. refl) (after_reads words.lines_word (number_reads (length lines) few)) in
+      let head = before_reads (codes "\n") (λ y. refl) (after_reads words.lines_word (number_reads (2 ^ 64) (length lines) few few)) in
       let rest : ℕ × List ℕ → Option (List Line × List ℕ) = λ count. counted count.0 (line_at s) count.1 in
       record {
         here = λ x f.
@@ -178,7 +178,7 @@ bytes_reads bytes = record {
 
 script_reads : (script : List ℕ) → IsLong (length script) → Reads script_at (script_text script) script Anything
 script_reads script few =
-    let head = before_reads (codes "\n") (λ y. refl) (after_reads words.header_word (number_reads (length script) few)) in
+    let head = before_reads (codes "\n") (λ y. refl) (after_reads words.header_word (number_reads (2 ^ 64) (length script) few few)) in
     let rest : ℕ × List ℕ → Option (List ℕ × List ℕ) = λ count. before (bytes_at count.0) (codes "\n") count.1 in
     let start : List ℕ = words.header_word ++ decimal (length script) ++ codes "\n" in
     record {

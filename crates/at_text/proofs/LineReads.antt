@@ -1,6 +1,7 @@
 -- Lines are read as they were written, but for the numbers that a miss carries.
-use Rattle.std.proofs.Common.{◌≡◌, ◌∙◌, ap, refl, sym, subst, ℕ, ◌≤◌, ◌==◌, arith, List, [], ◌∷◌, ◌++◌, true, false, cond, ◌&&◌, Option, Some, None, codes, decimal, inl, inr, append-nil, append_assoc}
+use Rattle.std.proofs.Common.{◌≡◌, ◌∙◌, ap, refl, sym, subst, ℕ, ◌≤◌, ◌<◌, ◌^◌, ◌==◌, arith, List, [], ◌∷◌, ◌++◌, true, false, cond, ◌&&◌, Option, Some, None, codes, decimal, inl, inr, append-nil, append_assoc}
 use Rattle.std.proofs.lemmas.Bool.{cases_Bool, eqb-true}
+use Rattle.std.proofs.lemmas.Bool.Decides.{nat_tests}
 use Rattle.std.proofs.lemmas.Fmt.{digits_decimal, decimal_nonempty}
 use Rattle.at_value.specs.Types.{Op, Value, HookKind, Path}
 use Rattle.at_value.specs.declared.operation.Op.TheVariants as ops
@@ -18,13 +19,13 @@ use Rattle.at_script.specs.Bytes as bytes
 use Rattle.at_script.specs.Parts.{ScriptParts}
 use Rattle.at_text.specs.Words as words
 use Rattle.at_text.specs.Values.{object_text, classes_text, value_text}
-use Rattle.at_text.specs.Lines.{op_text, begin_text, line_op_text, hook_word, made_text, line_reply_text, path_word, path_item, local_text, thread_text, what_text, line_text}
+use Rattle.at_text.specs.Lines.{op_text, begin_text, line_op_text, hook_word, made_text, line_reply_text, path_item, local_text, thread_text, what_text, line_text}
 use Rattle.at_text.specs.Printable.{IsLong, IsShort, HasSecond, HasOp, HasLineOp, HasInit, HasLineReply, HasLocal, HasWhat}
-use Rattle.at_text.specs.Readers.{nothing, made, both, before, begins_run, begins_with, number_at}
+use Rattle.at_text.specs.Readers.{nothing, begins_run, begins_with}
 use Rattle.at_text.specs.Bare.{bare_path, bare_what, bare_line}
-use Rattle.at_text.specs.ReadLines.{begins_object, second_at, line_op_at, hook_at, init_at, hook_parts, line_reply_at, path_at, path_item_at, local_at, thread_at, did, what_at, line_of, line_at}
-use Rattle.at_text.proofs.ReaderLaws.{Reads, Anything, Ends, Breaks, Stops, Closes, breaks-end, stops-break, closes-stop, and-true, or-true, begun, same_text, after_reads, before_reads, made_reads, both_reads, digits, digits_continue, name_reads, number_reads}
-use Rattle.at_text.proofs.ValueReads.{IsTold, object_reads, object_attribute_reads, class_attribute_reads, class_item_reads, classes_read, value_reads, value_item_reads, begins_all}
+use Rattle.at_text.specs.ReadLines.{begins_object, second_at, line_op_at, hook_at, init_at, hook_parts, line_reply_at, path_item_at, local_at, thread_at, did, done_at, did_at, local_what_at, what_at, front_at, line_of, line_at}
+use Rattle.at_text.proofs.ReaderLaws.{Reads, Anything, Ends, Breaks, Stops, Closes, breaks-end, stops-break, closes-stop, and-true, or-true, begun, same_text, after_reads, before_reads, made_reads, both_reads, digits, digits_continue, name_reads, number_reads, positive_reads}
+use Rattle.at_text.proofs.ValueReads.{IsTold, object_reads, object_attribute_reads, class_attribute_reads, class_item_reads, classes_read, bases_read, value_reads, value_item_reads, begins_all}
 
 -- What stands after something that ends where a line or an operation does
 
@@ -84,7 +85,7 @@ module _ (s : ScriptParts) (told : IsTold s) where
   pub op_reads : (operation : Op) → HasOp s operation → Reads (line_op_at s) (op_text s operation) (line_ops.Of operation) Stops
   unfolding line_op_at
   op_reads (ops.NewClass c bases) h = record {
-    here = λ x f. (made_reads (λ (p : ℕ × List ℕ). line_ops.Of (ops.NewClass p.0 p.1)) (both_reads (classes-end bases) (name_reads s.classes c (told.classes c h.0)) (classes_read s told bases h.1.1))).here x f;
+    here = λ x f. (made_reads (λ (p : ℕ × List ℕ). line_ops.Of (ops.NewClass p.0 p.1)) (both_reads (classes-end bases) (name_reads s.classes c (told.classes c h.0)) (bases_read s told bases h.1.0 h.1.1))).here x f;
   }
   op_reads (ops.TypeSet c n v) h = record {
     here = λ x f. (made_reads (λ (p : (ℕ × ℕ) × Value). line_ops.Of (ops.TypeSet p.0.0 p.0.1 p.1)) (both_reads (λ y g. refl) (class_attribute_reads s told c n h.0 h.1) (value_item_reads s told v h.2))).here x (stops-break x f);
@@ -93,7 +94,7 @@ module _ (s : ScriptParts) (told : IsTold s) where
     here = λ x f. (made_reads (λ (p : ℕ × ℕ). line_ops.Of (ops.TypeDel p.0 p.1)) (class_attribute_reads s told c n h.0 h.1)).here x (stops-end x f);
   }
   op_reads (ops.SetBases c bases) h = record {
-    here = λ x f. (made_reads (λ (p : ℕ × List ℕ). line_ops.Of (ops.SetBases p.0 p.1)) (both_reads (classes-end bases) (name_reads s.classes c (told.classes c h.0)) (classes_read s told bases h.1.1))).here x f;
+    here = λ x f. (made_reads (λ (p : ℕ × List ℕ). line_ops.Of (ops.SetBases p.0 p.1)) (both_reads (classes-end bases) (name_reads s.classes c (told.classes c h.0)) (bases_read s told bases h.1.0 h.1.1))).here x f;
   }
   op_reads (ops.New c) h = record {
     here = λ x f. (made_reads (λ (n : ℕ). line_ops.Of (ops.New n)) (name_reads s.classes c (told.classes c h))).here x (stops-end x f);
@@ -200,26 +201,23 @@ module _ (s : ScriptParts) (told : IsTold s) where
   line_reply_reads (line_replies.Of replies.Full) h = record { here = λ x f. refl }
   line_reply_reads line_replies.Kept h = record { here = λ x f. refl }
   line_reply_reads (line_replies.Suspended n) h = record {
-    here = λ x f. (made_reads line_replies.Suspended (number_reads n (omega arith))).here x (closes-end x f);
+    here = λ x f. (made_reads line_replies.Suspended (number_reads (2 ^ 32) n h (omega arith))).here x (closes-end x f);
   }
 
   -- Lines
 
-  path_reads : (way : Path) → Reads path_at (path_word way) (bare_path way) Anything
-  unfolding path_at nothing
-  path_reads paths.Fast = record { here = λ x f. refl }
-  path_reads paths.Locked = record { here = λ x f. refl }
-  path_reads (paths.Slow (misses.Untagged c)) = record { here = λ x f. refl }
-  path_reads (paths.Slow (misses.Unlike e)) = record { here = λ x f. refl }
-  path_reads (paths.Slow (misses.Writing e n)) = record { here = λ x f. refl }
-  path_reads (paths.Slow (misses.Changed e n m)) = record { here = λ x f. refl }
-  path_reads (paths.Slow (misses.Odd o n)) = record { here = λ x f. refl }
-  path_reads (paths.Slow (misses.Dict o n)) = record { here = λ x f. refl }
-  path_reads (paths.Slow (misses.Keyless c x)) = record { here = λ x f. refl }
-  path_reads (paths.Slow (misses.Moved w n m)) = record { here = λ x f. refl }
-
   path_item_reads : (way : Path) → Reads path_item_at (path_item way) (bare_path way) Anything
-  path_item_reads way = before_reads (codes " ") (λ x. tt) (after_reads (codes " ") (path_reads way))
+  unfolding path_item_at nothing
+  path_item_reads paths.Fast = record { here = λ x f. refl }
+  path_item_reads paths.Locked = record { here = λ x f. refl }
+  path_item_reads (paths.Slow (misses.Untagged c)) = record { here = λ x f. refl }
+  path_item_reads (paths.Slow (misses.Unlike e)) = record { here = λ x f. refl }
+  path_item_reads (paths.Slow (misses.Writing e n)) = record { here = λ x f. refl }
+  path_item_reads (paths.Slow (misses.Changed e n m)) = record { here = λ x f. refl }
+  path_item_reads (paths.Slow (misses.Odd o n)) = record { here = λ x f. refl }
+  path_item_reads (paths.Slow (misses.Dict o n)) = record { here = λ x f. refl }
+  path_item_reads (paths.Slow (misses.Keyless c x)) = record { here = λ x f. refl }
+  path_item_reads (paths.Slow (misses.Moved w n m)) = record { here = λ x f. refl }
 
   local_reads : (l : Local) → HasLocal s l → Reads (local_at s) (local_text s l) l Closes
   unfolding local_at nothing
@@ -228,8 +226,8 @@ module _ (s : ScriptParts) (told : IsTold s) where
   local_reads locals.Kind h = record { here = λ x f. refl }
   local_reads (locals.Unbound a) h = record { here = λ x f. (made_reads locals.Unbound (name_reads s.vars a (told.vars a h))).here x (closes-end x f) }
   local_reads locals.NotCallable h = record { here = λ x f. refl }
-  local_reads (locals.Worn n) h = record { here = λ x f. (made_reads locals.Worn (number_reads n h)).here x (closes-end x f) }
-  local_reads (locals.Full n) h = record { here = λ x f. (made_reads locals.Full (number_reads n h)).here x (closes-end x f) }
+  local_reads (locals.Worn n) h = record { here = λ x f. (made_reads locals.Worn (number_reads (2 ^ 64) n h h)).here x (closes-end x f) }
+  local_reads (locals.Full n) h = record { here = λ x f. (made_reads locals.Full (number_reads (2 ^ 64) n h h)).here x (closes-end x f) }
 
   thread_reads : (t : ℕ) → t ≤ finally_thread → Reads thread_at (thread_text t) t Ends
   unfolding thread_at nothing
@@ -242,7 +240,9 @@ module _ (s : ScriptParts) (told : IsTold s) where
               | inr g ↦
                   let text : words.thread_word ++ decimal t ≡ thread_text t =
                   sym (ap (λ b. cond b (codes "m") (cond (t == finally_thread) (codes "f") (words.thread_word ++ decimal t))) e ∙ ap (λ b. cond b (codes "f") (words.thread_word ++ decimal t)) g) in
-                  same_text text (record { here = λ x f. (number_reads t (omega arith)).here x f })
+                  let some : 0 < t = grind (arith, nat_tests, e) in
+                  let most : t < finally_thread = grind (arith, nat_tests, g, h) in
+                  same_text text (record { here = λ x f. (positive_reads finally_thread t some most (omega arith)).here x f })
             ]
       ]
 
@@ -253,12 +253,20 @@ module _ (s : ScriptParts) (told : IsTold s) where
   begins_number : (n : ℕ) (x : List ℕ) → IsLong n → begins_run (decimal n ++ x) ≡ true
   begins_number n x h = begins_all s told (decimal n) x (decimal_nonempty n h) (digits_continue (decimal n) (digits_decimal digits n h))
 
+  done_reads : (place : ℕ) (way : Path) (operation : LineOp) → IsLong place → HasLineOp s operation → Reads (done_at s) (decimal place ++ path_item way ++ line_op_text s operation ++ codes " = ") ((place, bare_path way), operation) Anything
+  unfolding done_at
+  done_reads place way operation n o =
+      let first = both_reads (λ y g. refl) (number_reads (2 ^ 64) place n n) (path_item_reads way) in
+      before_reads (codes " = ") (λ y. refl) (both_reads (λ y g. tt) first (line_op_reads operation o))
+
   did_reads : (place : ℕ) (way : Path) (operation : LineOp) (r : LineReply) → IsLong place → HasLineOp s operation → HasLineReply s r
-      → Reads (made did (both (before (both (both number_at path_item_at) (line_op_at s)) (codes " = ")) (line_reply_at s))) (decimal place ++ path_item way ++ line_op_text s operation ++ codes " = " ++ line_reply_text s r) (whats.Did (record { 0 = place }) (bare_path way) operation r) Closes
-  did_reads place way operation r n o h =
-      let first = both_reads (λ y g. refl) (number_reads place n) (path_item_reads way) in
-      let second = before_reads (codes " = ") (λ y. refl) (both_reads (λ y g. tt) first (line_op_reads operation o)) in
-      made_reads did (both_reads (λ y g. tt) second (line_reply_reads r h))
+      → Reads (did_at s) (decimal place ++ path_item way ++ line_op_text s operation ++ codes " = " ++ line_reply_text s r) (whats.Did (record { 0 = place }) (bare_path way) operation r) Closes
+  unfolding did_at
+  did_reads place way operation r n o h = made_reads did (both_reads (λ y g. tt) (done_reads place way operation n o) (line_reply_reads r h))
+
+  local_what_reads : (l : Local) → HasLocal s l → Reads (local_what_at s) (codes "- local " ++ local_text s l) (whats.Local l) Closes
+  unfolding local_what_at
+  local_what_reads l h = after_reads (codes "- local ") (made_reads whats.Local (local_reads l h))
 
   pub what_reads : (what : What) → HasWhat s what → Reads (what_at s) (what_text s what) (bare_what what) Closes
   unfolding what_at
@@ -272,11 +280,15 @@ module _ (s : ScriptParts) (told : IsTold s) where
         (begins_more (decimal place.0 ++ path_item way ++ op) (codes " = ") (begins_more (decimal place.0 ++ path_item way) op (begins_number place.0 (path_item way) h.0)))) in
         rw begins ((did_reads place.0 way operation r h.0 h.1 h.2).here x f);
   }
-  what_reads (whats.Local l) h = record { here = λ x f. (after_reads (codes "- local ") (made_reads whats.Local (local_reads l h))).here x f }
+  what_reads (whats.Local l) h = record { here = λ x f. (local_what_reads l h).here x f }
+
+  front_reads : (thread number : ℕ) → thread ≤ finally_thread → IsShort number → Reads front_at (thread_text thread ++ codes " " ++ decimal number ++ codes " ") (thread, number) Anything
+  unfolding front_at
+  front_reads thread number t n =
+      let first = before_reads (codes " ") (λ y. refl) (thread_reads thread t) in
+      before_reads (codes " ") (λ y. refl) (both_reads (λ y g. tt) first (number_reads (2 ^ 32) number n (omega arith)))
 
   pub line_reads : (line : Line) → line.thread ≤ finally_thread → IsShort line.number → HasWhat s line.what → Reads (line_at s) (line_text s line) (bare_line line) Anything
   unfolding line_at
   line_reads line t n h =
-      let first = before_reads (codes " ") (λ y. refl) (thread_reads line.thread t) in
-      let second = before_reads (codes " ") (λ y. refl) (both_reads (λ y g. tt) first (number_reads line.number (omega arith))) in
-      made_reads line_of (before_reads (codes "\n") (λ y. refl) (both_reads (λ y g. tt) second (what_reads line.what h)))
+      made_reads line_of (before_reads (codes "\n") (λ y. refl) (both_reads (λ y g. tt) (front_reads line.thread line.number t n) (what_reads line.what h)))

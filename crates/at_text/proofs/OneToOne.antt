@@ -32,7 +32,7 @@ not_there word texts n absent known =
     let none : Some n ≡ None = sym known.place ∙ ap (λ w. place_of w texts) ((bytes_eq-Decides (text_at texts n) word).0 same) ∙ absent in
     cc)
 
-told : (s : ScriptParts) → AreToldApart s → IsTold s
+pub told : (s : ScriptParts) → AreToldApart s → IsTold s
 told s a =
     let classes = are_known s.classes a.classes in
     let funcs = are_known s.funcs a.funcs in

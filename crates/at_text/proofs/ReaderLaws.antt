@@ -1,11 +1,11 @@
 -- What is read of a text that was written, in front of anything that may follow.
-use Rattle.std.proofs.Common.{◌≡◌, ◌∙◌, ap, refl, sym, subst, ℕ, zero, suc, ◌+◌, ◌<◌, ◌≤◌, ◌^◌, ◌==◌, arith, rules, List, [], ◌∷◌, ◌++◌, length, map, append_assoc, length-append, Bool, true, false, cond, not, ◌&&◌, ◌||◌, Option, Some, None, bytes_eq, decimal, ◌⊎◌, inl, inr, flat_map}
+use Rattle.std.proofs.Common.{◌≡◌, ◌∙◌, ap, refl, sym, subst, ℕ, zero, suc, ◌+◌, ◌<◌, ◌≤◌, ◌^◌, ◌==◌, nat_lt, arith, rules, List, [], ◌∷◌, ◌++◌, length, map, append_assoc, length-append, Bool, true, false, cond, not, ◌&&◌, ◌||◌, Option, Some, None, bytes_eq, decimal, ◌⊎◌, inl, inr, flat_map}
 use Rattle.std.specs.Option.{option_map}
 use Rattle.std.specs.List.{list_all, AllByRecursion}
 use Rattle.std.specs.Int.{is_in_range}
 use Rattle.std.specs.Str.Parse.{digits_value}
 use Rattle.std.specs.Cmp.Lexicographic.{nat_list_eq_equiv}
-use Rattle.std.proofs.lemmas.Bool.{eq-eqb, eqb-true}
+use Rattle.std.proofs.lemmas.Bool.{eq-eqb, eqb-true, lt-ltb}
 use Rattle.std.proofs.lemmas.Fmt.{digits_decimal, digits_value-decimal}
 use Rattle.std.proofs.lemmas.Str.Parse.{IsNumeralModel, numerals_by_value}
 use Rattle.at_name.specs.Texts.{place_of}
@@ -13,7 +13,7 @@ use Rattle.at_script.specs.Bytes as bytes
 use Rattle.at_script.specs.Literals.{◌>>=◌}
 use Rattle.at_script.specs.Words.{begins_identifier, continues_identifier, is_identifier, is_digit}
 use Rattle.at_text.specs.Values.{text_at}
-use Rattle.at_text.specs.Readers.{Reader, nothing, made, both, past, after, before, run, past_run, begins_with, number_of, number_at, name_at, counted, up_to, numbered}
+use Rattle.at_text.specs.Readers.{Reader, nothing, made, passing, both, past, after, before, run, past_run, begins_with, number_of, number_below, number_at, positive_at, name_at, counted, up_to, numbered}
 
 -- Read in front of what may follow, the text of a thing is the thing and the rest.
 pub record Reads {A : Type 0} (r : Reader A) (text : List ℕ) (a : A) (follows : List ℕ → Type 0) : Type 0 where
@@ -107,6 +107,14 @@ module _ {A : Type 0} where
   unfolding after
   after_reads {r} {text} word h = record {
     here = λ x f. ap (after word r) (append_assoc word text x) ∙ ap (λ o. o >>= r) (past_here word (text ++ x)) ∙ h.here x f;
+  }
+
+  pub passing_reads : {r : Reader A} {text : List ℕ} {a : A} {follows : List ℕ → Type 0} (test : A → Bool) → test a ≡ true → Reads r text a follows → Reads (passing test r) text a follows
+  unfolding passing
+  passing_reads {r} {text} {a} test h k = record {
+    here = λ x f.
+        let rest : A × List ℕ → Option (A × List ℕ) = λ found. cond (test found.0) (Some found) None in
+        ap (λ o. o >>= rest) (k.here x f) ∙ ap (λ b. cond b (Some (a, x)) None) h;
   }
 
   pub before_reads : {r : Reader A} {text : List ℕ} {a : A} {follows : List ℕ → Type 0} (word : List ℕ) → ((x : List ℕ) → follows (word ++ x)) → Reads r text a follows → Reads (before r word) (text ++ word) a Anything
@@ -205,14 +213,21 @@ number_of_decimal n h =
     ap (λ (m : ℕ). cond (bytes_eq (decimal n) (decimal m)) (Some m) None) (digits_value-decimal digits n h)
     ∙ ap (λ b. cond b (Some n) None) (nat_list_eq_equiv.refl (decimal n))
 
-pub number_reads : (n : ℕ) → n < 2 ^ 64 → Reads number_at (decimal n) n Ends
+pub number_below_decimal : (bound n : ℕ) → n < bound → n < 2 ^ 64 → number_below bound (decimal n) ≡ Some n
+number_below_decimal bound n below h =
+    ap (λ (o : Option ℕ). o >>= (λ m. cond (nat_lt m bound) (Some m) None)) (number_of_decimal n h) ∙ ap (λ b. cond b (Some n) None) (lt-ltb n bound below)
+
+pub number_reads : (bound n : ℕ) → n < bound → n < 2 ^ 64 → Reads (number_at bound) (decimal n) n Ends
 unfolding number_at
-number_reads n h = record {
+number_reads bound n below h = record {
   here = λ x f.
       let told = word_runs (decimal n) x (digits_continue (decimal n) (digits_decimal digits n h)) f in
-      ap (λ (w : List ℕ). option_map (λ m. (m, past_run (decimal n ++ x))) (number_of w)) told.0
-      ∙ ap (option_map (λ m. (m, past_run (decimal n ++ x)))) (number_of_decimal n h) ∙ ap (λ (rest : List ℕ). Some (n, rest)) told.1;
+      ap (λ (w : List ℕ). option_map (λ m. (m, past_run (decimal n ++ x))) (number_below bound w)) told.0
+      ∙ ap (option_map (λ m. (m, past_run (decimal n ++ x)))) (number_below_decimal bound n below h) ∙ ap (λ (rest : List ℕ). Some (n, rest)) told.1;
 }
+
+pub positive_reads : (bound n : ℕ) → 0 < n → n < bound → n < 2 ^ 64 → Reads (positive_at bound) (decimal n) n Ends
+positive_reads bound n some below h = passing_reads (nat_lt 0) (lt-ltb 0 n some) (number_reads bound n below h)
 
 -- Lists
 

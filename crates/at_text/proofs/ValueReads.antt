@@ -1,12 +1,13 @@
 -- Names and values are read as they were written.
-use Rattle.std.proofs.Common.{◌≡◌, ◌∙◌, ap, refl, sym, subst, ℕ, suc, ◌<◌, ◌==◌, arith, List, [], ◌∷◌, ◌++◌, length, true, false, ◌&&◌, Option, Some, None, bytes_eq, codes, decimal, pos, negsuc, inl, inr, option_and_then, true≢false}
+use Rattle.std.proofs.Common.{◌≡◌, ◌∙◌, ap, refl, sym, subst, ℕ, suc, ◌<◌, ◌≤◌, ◌+◌, ◌^◌, ◌==◌, nat_le, arith, List, [], ◌∷◌, ◌++◌, length, true, false, ◌&&◌, Option, Some, None, bytes_eq, codes, decimal, pos, negsuc, inl, inr, true≢false}
 use Rattle.std.specs.List.{list_all, All, AllByRecursion}
-use Rattle.std.proofs.lemmas.Bool.{eqb-true, false_from_ne_true}
+use Rattle.std.proofs.lemmas.Bool.{eqb-true, le-leb, false_from_ne_true}
 use Rattle.std.proofs.lemmas.Bool.Decides.{nat_tests}
 use Rattle.std.proofs.lemmas.Fmt.{digits_decimal, decimal_nonempty}
 use Rattle.std.proofs.lemmas.Slice.Eq.{bytes_eq-Decides}
 use Rattle.std.proofs.lemmas.List.Elements.{recursion_from_All}
 use Rattle.at_value.specs.Parts.{PropertyParts}
+use Rattle.at_value.specs.Widths as widths
 use Rattle.at_value.specs.declared.value.Value as value
 use Rattle.at_value.specs.declared.value.Value.TheVariants.{Nothing, Int, Text, Func, Prop, Static, ClassM, Class, Obj}
 use Rattle.at_name.specs.Texts.{place_of}
@@ -17,8 +18,8 @@ use Rattle.at_text.specs.Words as words
 use Rattle.at_text.specs.Values.{text_at, object_text, object_attribute, class_attribute, class_item, classes_text, part_text, value_text, value_item}
 use Rattle.at_text.specs.Printable.{IsLong, IsObject, HasName, HasClass, HasPart, HasProperty, HasValue}
 use Rattle.at_text.specs.Readers.{nothing, after, begins_run, begins_with}
-use Rattle.at_text.specs.ReadValues.{object_at, object_attribute_at, class_attribute_at, class_item_at, begins_name, begins_item, classes_at, part_at, property, property_at, below_zero, named, worded, value_at, value_item_at}
-use Rattle.at_text.proofs.ReaderLaws.{Reads, Ends, Breaks, Stops, breaks-end, stops-break, and-true, or-true, begun, same_text, where_follows, after_reads, before_reads, made_reads, both_reads, word_runs, AreKnown, identifier_continues, digits, digits_continue, number_of_decimal, name_reads, number_reads, Listed, numbered_reads, flat_texts}
+use Rattle.at_text.specs.ReadValues.{object_at, object_attribute_at, class_attribute_at, class_item_at, begins_name, begins_item, classes_at, bases_at, part_at, property, property_at, negated, named, worded, value_at, value_item_at}
+use Rattle.at_text.proofs.ReaderLaws.{Reads, Ends, Breaks, Stops, breaks-end, stops-break, and-true, or-true, begun, same_text, where_follows, after_reads, before_reads, made_reads, both_reads, word_runs, AreKnown, identifier_continues, digits, digits_continue, number_below_decimal, name_reads, number_reads, positive_reads, passing_reads, Listed, numbered_reads, flat_texts}
 
 -- What a script has is told apart: its texts are names, each at its place, none of a class or a function is `none`, and no
 -- class has the name of a function.
@@ -34,7 +35,7 @@ pub record IsTold (s : ScriptParts) : Type 0 where
 -- Objects, attributes and classes
 
 pub object_reads : (o : ℕ) → IsObject o → Reads object_at (object_text o) o Ends
-object_reads o h = after_reads (codes "#") (number_reads o (omega arith))
+object_reads o h = after_reads (codes "#") (number_reads widths.objects o h (omega arith))
 
 module _ (s : ScriptParts) (told : IsTold s) where
   pub object_attribute_reads : (o x : ℕ) → IsObject o → HasName s x → Reads (object_attribute_at s) (object_attribute s o x) (o, x) Ends
@@ -79,6 +80,9 @@ module _ (s : ScriptParts) (told : IsTold s) where
       same_text (flat_texts (class_item s) 0 cs)
       (where_follows (λ x f. (stops-item x f, breaks-end x (stops-break x f)))
       (numbered_reads begins_item (λ _. class_item_at s) (λ _. class_item s) Ends cs (all_listed cs (recursion_from_All (HasClass s) cs all))))
+
+  pub bases_read : (cs : List ℕ) → length cs ≤ widths.most_bases → All (HasClass s) cs → Reads (bases_at s) (classes_text s cs) cs Stops
+  bases_read cs few all = passing_reads (λ (bases : List ℕ). nat_le (length bases) widths.most_bases) (le-leb (length cs) widths.most_bases few) (classes_read cs all)
 
   -- Values
 
@@ -146,11 +150,11 @@ module _ (s : ScriptParts) (told : IsTold s) where
       let long : IsLong n = omega arith in
       let all = digits_decimal digits n long in
       let continue = digits_continue (decimal n) all in
-      worded_reads (decimal n) (Int (pos n)) continue (λ x. begins_all (decimal n) x (decimal_nonempty n long) continue) (rw (not_none n long, all, number_of_decimal n long) refl)
+      worded_reads (decimal n) (Int (pos n)) continue (λ x. begins_all (decimal n) x (decimal_nonempty n long) continue) (rw (not_none n long, all, number_below_decimal (2 ^ 31) n h long) refl)
   value_reads (Int (negsuc n)) h = record {
-    here = λ x f. ap (λ (o : Option (ℕ × List ℕ)). option_and_then below_zero o) ((number_reads (suc n) (omega arith)).here x (breaks-end x f));
+    here = λ x f. (made_reads (λ m. Int (negated m)) (positive_reads (2 ^ 31 + 1) (suc n) (omega arith) (omega arith) (omega arith))).here x (breaks-end x f);
   }
-  value_reads (Text x) h = record { here = λ y f. (before_reads (codes "\"") (λ z. refl) (made_reads Text (name_reads s.names x (told.names x h)))).here y tt }
+  value_reads (Text x) h = record { here = λ y f. (made_reads Text (before_reads (codes "\"") (λ z. refl) (name_reads s.names x (told.names x h)))).here y tt }
   value_reads (Func f) h =
       named_reads (text_at s.funcs f) (Func f) (told.funcs f h).form (told.no_func f h) (ap (λ o. named o (place_of (text_at s.funcs f) s.classes)) (told.funcs f h).place)
   value_reads (Prop p) h = record { here = λ x f. (made_reads Prop (property_reads p h)).here x (breaks-end x f) }
@@ -159,7 +163,7 @@ module _ (s : ScriptParts) (told : IsTold s) where
   value_reads (Class c) h =
       named_reads (text_at s.classes c) (Class c) (told.classes c h).form (told.no_class c h)
       (ap (λ o. named o (place_of (text_at s.classes c) s.classes)) (told.apart c h) ∙ ap (named None) (told.classes c h).place)
-  value_reads (Obj o) h = record { here = λ x f. (made_reads Obj (number_reads o (omega arith))).here x (breaks-end x f) }
+  value_reads (Obj o) h = record { here = λ x f. (made_reads Obj (number_reads widths.objects o h (omega arith))).here x (breaks-end x f) }
 
   pub value_item_reads : (v : value.Value) → HasValue s v → Reads (value_item_at s) (value_item s v) v Breaks
   value_item_reads v h = after_reads (codes " ") (value_reads v h)

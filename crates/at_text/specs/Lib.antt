@@ -6,6 +6,7 @@ pub mod Order
 pub mod Transcript
 pub mod Printable
 pub mod Words
+pub mod Tables
 pub mod Readers
 pub mod ReadValues
 pub mod ReadLines

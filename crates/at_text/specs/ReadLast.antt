@@ -1,5 +1,5 @@
 -- private: no public clause cites it. Final namespaces and whole transcripts, as they are read.
-use Rattle.std.specs.Prelude.{ℕ, nat_le, List, [], ◌∷◌, length, take, drop, Option, Some, None, if◌then◌else◌, codes}
+use Rattle.std.specs.Prelude.{ℕ, ◌^◌, nat_le, List, [], ◌∷◌, length, take, drop, Option, Some, None, if◌then◌else◌, codes}
 use Rattle.at_value.specs.Pairs.{with_value}
 use Rattle.at_value.specs.Types.{Value}
 use Rattle.at_model.specs.declared.last.ClassEnd.{ClassEnd}
@@ -53,7 +53,7 @@ final_at s =
 
 -- so many lines
 abbrev pub lines_at : ScriptParts → Reader (List Line)
-lines_at s = λ text. before (after words.lines_word number_at) (codes "\n") text >>= (λ count. counted count.0 (line_at s) count.1)
+lines_at s = λ text. before (after words.lines_word (number_at (2 ^ 64))) (codes "\n") text >>= (λ count. counted count.0 (line_at s) count.1)
 
 -- so many bytes
 abbrev pub bytes_at : ℕ → Reader (List ℕ)
@@ -61,7 +61,7 @@ bytes_at n = λ text. if nat_le n (length text) then Some (take n text, drop n t
 
 -- the bytes of the script
 abbrev pub script_at : Reader (List ℕ)
-script_at = λ text. before (after words.header_word number_at) (codes "\n") text >>= (λ count. before (bytes_at count.0) (codes "\n") count.1)
+script_at = λ text. before (after words.header_word (number_at (2 ^ 64))) (codes "\n") text >>= (λ count. before (bytes_at count.0) (codes "\n") count.1)
 
 -- the script, the lines and the final namespaces, where nothing follows
 abbrev pub whole : List ℕ → (List Line × Final) × List ℕ → Option (List ℕ × (List Line × Final))

@@ -1,5 +1,5 @@
 -- private: no public clause cites it. Readers: what stands at the front of a text, and what follows it.
-use Rattle.std.specs.Prelude.{ℕ, zero, suc, ◌==◌, ◌+◌, Bool, false, List, [], ◌∷◌, length, Option, Some, None, if◌then◌else◌, bytes_eq, decimal}
+use Rattle.std.specs.Prelude.{ℕ, zero, suc, ◌==◌, ◌+◌, nat_lt, Bool, false, List, [], ◌∷◌, length, Option, Some, None, if◌then◌else◌, bytes_eq, decimal}
 use Rattle.std.specs.Option.{option_map}
 use Rattle.std.specs.Str.Parse.{digits_value}
 use Rattle.at_name.specs.Texts.{place_of}
@@ -16,6 +16,10 @@ nothing a = λ text. Some (a, text)
 -- what is read is made into something else
 unfoldable pub made : {A B : Type 0} → (A → B) → Reader A → Reader B
 made f r = λ text. option_map (λ found. (f found.0, found.1)) (r text)
+
+-- what is read, where it passes a test
+unfoldable pub passing : {A : Type 0} → (A → Bool) → Reader A → Reader A
+passing test r = λ text. r text >>= (λ found. if test found.0 then Some found else None)
 
 -- one after another
 unfoldable pub both : {A B : Type 0} → Reader A → Reader B → Reader (A × B)
@@ -76,8 +80,17 @@ begins_with byte (first ∷ text) = first == byte
 abbrev pub number_of : List ℕ → Option ℕ
 number_of word = if bytes_eq word (decimal (digits_value 10 word)) then Some (digits_value 10 word) else None
 
-unfoldable pub number_at : Reader ℕ
-number_at = λ text. option_map (λ n. (n, past_run text)) (number_of (run text))
+-- the number, where it is below a bound
+abbrev pub number_below : ℕ → List ℕ → Option ℕ
+number_below bound word = number_of word >>= (λ n. if nat_lt n bound then Some n else None)
+
+-- a number below a bound
+unfoldable pub number_at : ℕ → Reader ℕ
+number_at bound = λ text. option_map (λ n. (n, past_run text)) (number_below bound (run text))
+
+-- a number from 1 on, below a bound
+abbrev pub positive_at : ℕ → Reader ℕ
+positive_at bound = passing (nat_lt 0) (number_at bound)
 
 -- one of these texts, by its place
 unfoldable pub name_at : List (List ℕ) → Reader ℕ

@@ -11,6 +11,7 @@ ghost use Rattle.at_text.specs.Transcript.{final_text};
 use crate::order::ByBytes;
 use crate::pen::Pen;
 use crate::value::{put_class, put_class_item, put_classes, put_name, put_value_item};
+use crate::words::{END, FINAL, OBJECT, OpWord};
 use at_model::{ClassEnd, ClassEnds, Final, ObjEnd, ObjEnds};
 use at_script::Script;
 use at_source::Sink;
@@ -41,7 +42,7 @@ fn put_class_end<K: Sink>(pen: &mut Pen<'_, K>, names: &Script, order: &mut ByBy
     ensures text { Prints pen.old pen.new (class_end_text names.now end.now) }
     ensures keys { order.new.keys ≡ order.old.keys }
 {
-    pen.write(b"class ");
+    pen.write(OpWord::Class.text());
     put_class(pen, names, end.class);
     pen.write(b" =");
     put_classes(pen, names, &end.order);
@@ -60,7 +61,7 @@ fn put_object_end<K: Sink>(
     ensures text { Prints pen.old pen.new (object_end_text names.now number end.now) }
     ensures keys { order.new.keys ≡ order.old.keys }
 {
-    pen.write(b"object #");
+    pen.write(OBJECT);
     pen.number(number as u64);
     put_class_item(pen, names, end.class);
     pen.write(b"\n");
@@ -134,8 +135,8 @@ pub fn put_final<K: Sink>(pen: &mut Pen<'_, K>, names: &Script, order: &mut ByBy
     requires { AreKeys names.now.names order.old.keys }
     ensures { Prints pen.old pen.new (final_text names.now last.now) }
 {
-    pen.write(b"final\n");
+    pen.write(FINAL);
     put_class_ends(pen, names, order, &last.classes);
     put_object_ends(pen, names, order, &last.objects);
-    pen.write(b"end\n");
+    pen.write(END);
 }

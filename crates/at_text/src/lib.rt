@@ -13,5 +13,6 @@ mod reply;
 mod tests;
 mod transcript;
 mod value;
+pub mod words;
 
 pub use transcript::{PrintFault, print};

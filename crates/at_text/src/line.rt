@@ -2,8 +2,9 @@
 #![tactic(auto, using(crate::proofs::Printing::then_texts))]
 
 ghost use Rattle.std.specs.Prelude.{◌++◌, codes, decimal};
-ghost use Rattle.at_text.specs.Lines.{miss_word, path_item, local_text, thread_text, what_text, line_text};
+ghost use Rattle.at_text.specs.Lines.{local_text, thread_text, what_text, line_text};
 ghost use Rattle.at_text.specs.Prints.{Prints};
+ghost use Rattle.at_text.specs.Tables.{local_word};
 ghost use Rattle.at_text.specs.Values.{text_at};
 ghost use Rattle.at_line.specs.declared.line.What.TheVariants as whats;
 
@@ -11,48 +12,24 @@ use crate::operation::put_line_op;
 use crate::pen::Pen;
 use crate::reply::put_line_reply;
 use crate::value::put_var;
+use crate::words::{EQUALS, LOCAL, LocalWord, path_text};
 use at_line::{FINALLY_THREAD, Line, LineOp, LineReply, Local, MAIN_THREAD, What};
 use at_script::Script;
 use at_source::Sink;
-use at_value::{Miss, Path, Place};
+use at_value::{Path, Place};
 
-fn put_miss<K: Sink>(pen: &mut Pen<'_, K>, miss: &Miss)
-    ensures { Prints pen.old pen.new (codes " " ++ miss_word miss.now ++ codes " ") }
+/// Prints a word and a number.
+fn put_word_and_number<K: Sink>(pen: &mut Pen<'_, K>, word: LocalWord, number: u64)
+    ensures { Prints pen.old pen.new (local_word word ++ decimal number) }
 {
-    match miss {
-        Miss::Untagged(_) => pen.write(b" untagged "),
-        Miss::Unlike(_) => pen.write(b" unlike "),
-        Miss::Writing(_, _) => pen.write(b" writing "),
-        Miss::Changed(_, _, _) => pen.write(b" changed "),
-        Miss::Odd(_, _) => pen.write(b" odd "),
-        Miss::Dict(_, _) => pen.write(b" dict "),
-        Miss::Keyless(_, _) => pen.write(b" keyless "),
-        Miss::Moved(_, _, _) => pen.write(b" moved "),
-    }
-}
-
-fn put_path<K: Sink>(pen: &mut Pen<'_, K>, path: &Path)
-    ensures { Prints pen.old pen.new (path_item path.now) }
-{
-    match path {
-        Path::Fast => pen.write(b" fast "),
-        Path::Slow(miss) => put_miss(pen, miss),
-        Path::Locked => pen.write(b" locked "),
-    }
-}
-
-/// Prints a word with a blank after it, and a number.
-fn put_word_and_number<K: Sink>(pen: &mut Pen<'_, K>, word: &[u8], number: u64)
-    ensures { Prints pen.old pen.new (word.now ++ decimal number) }
-{
-    pen.write(word);
+    pen.write(word.text());
     pen.number(number);
 }
 
 fn put_unbound<K: Sink>(pen: &mut Pen<'_, K>, names: &Script, var: u16)
     ensures { Prints pen.old pen.new (codes "unbound " ++ text_at names.now.vars var) }
 {
-    pen.write(b"unbound ");
+    pen.write(LocalWord::Unbound.text());
     put_var(pen, names, var);
 }
 
@@ -60,13 +37,13 @@ fn put_local<K: Sink>(pen: &mut Pen<'_, K>, names: &Script, local: &Local)
     ensures { Prints pen.old pen.new (local_text names.now local.now) }
 {
     match local {
-        Local::Depth => pen.write(b"depth"),
-        Local::Budget => pen.write(b"budget"),
-        Local::Kind => pen.write(b"kind"),
+        Local::Depth => pen.write(LocalWord::Depth.text()),
+        Local::Budget => pen.write(LocalWord::Budget.text()),
+        Local::Kind => pen.write(LocalWord::Kind.text()),
         Local::Unbound(var) => put_unbound(pen, names, *var),
-        Local::NotCallable => pen.write(b"notcallable"),
-        Local::Worn(sequence) => put_word_and_number(pen, b"worn ", *sequence),
-        Local::Full(place) => put_word_and_number(pen, b"full ", *place),
+        Local::NotCallable => pen.write(LocalWord::NotCallable.text()),
+        Local::Worn(sequence) => put_word_and_number(pen, LocalWord::Worn, *sequence),
+        Local::Full(place) => put_word_and_number(pen, LocalWord::Full, *place),
     }
 }
 
@@ -102,9 +79,9 @@ fn put_did<K: Sink>(
     ensures { Prints pen.old pen.new (what_text names.now (whats.Did place path.now op.now reply.now)) }
 {
     pen.number(place.0);
-    put_path(pen, path);
+    pen.write(path_text(path));
     put_line_op(pen, names, op);
-    pen.write(b" = ");
+    pen.write(EQUALS);
     put_line_reply(pen, names, reply);
 }
 
@@ -114,7 +91,7 @@ fn put_what<K: Sink>(pen: &mut Pen<'_, K>, names: &Script, what: &What)
     match what {
         What::Did(place, path, op, reply) => put_did(pen, names, *place, path, op, reply),
         What::Local(local) => {
-            pen.write(b"- local ");
+            pen.write(LOCAL);
             put_local(pen, names, local);
         }
     }

@@ -1,73 +1,73 @@
 //! Printing operations.
 #![tactic(auto, using(crate::proofs::Printing::then_texts))]
 
-ghost use Rattle.std.specs.Prelude.{◌++◌, codes, decimal};
+ghost use Rattle.std.specs.Prelude.{◌++◌, codes};
 ghost use Rattle.at_text.specs.Lines.{op_text, begin_text, line_op_text};
 ghost use Rattle.at_text.specs.Prints.{Prints};
+ghost use Rattle.at_text.specs.Tables.{op_word};
 ghost use Rattle.at_text.specs.Values.{text_at, object_text, object_attribute, class_attribute, class_item};
 ghost use Rattle.at_text.specs.Values.{classes_text, value_item};
 
 use crate::pen::Pen;
 use crate::value::{
-    put_bases, put_class, put_class_attribute, put_class_item, put_name, put_object,
-    put_object_attribute, put_value_item,
+    put_bases, put_class, put_class_attribute, put_class_item, put_object, put_object_attribute,
+    put_value_item,
 };
+use crate::words::OpWord;
 use at_line::LineOp;
 use at_script::Script;
 use at_source::Sink;
 use at_value::{Bases, Class, Name, Obj, Op, Value};
 
-/// Prints a word with a blank after it, a class and its bases.
+/// Prints a word, a class and its bases.
 fn put_with_bases<K: Sink>(
     pen: &mut Pen<'_, K>,
     names: &Script,
-    word: &[u8],
+    word: OpWord,
     class: Class,
     bases: &Bases,
 )
-    ensures { Prints pen.old pen.new (word.now ++ text_at names.now.classes class ++ classes_text names.now bases.now) }
+    ensures { Prints pen.old pen.new (op_word word ++ text_at names.now.classes class ++ classes_text names.now bases.now) }
 {
-    pen.write(word);
+    pen.write(word.text());
     put_class(pen, names, class);
     put_bases(pen, names, bases);
 }
 
-/// Prints a word with a blank after it, and a class.
-fn put_word_and_class<K: Sink>(pen: &mut Pen<'_, K>, names: &Script, word: &[u8], class: Class)
-    ensures { Prints pen.old pen.new (word.now ++ text_at names.now.classes class) }
+/// Prints a word and a class.
+fn put_word_and_class<K: Sink>(pen: &mut Pen<'_, K>, names: &Script, word: OpWord, class: Class)
+    ensures { Prints pen.old pen.new (op_word word ++ text_at names.now.classes class) }
 {
-    pen.write(word);
+    pen.write(word.text());
     put_class(pen, names, class);
 }
 
-/// Prints a word with a blank after it, and an attribute of a class.
+/// Prints a word and an attribute of a class.
 fn put_of_class<K: Sink>(
     pen: &mut Pen<'_, K>,
     names: &Script,
-    word: &[u8],
+    word: OpWord,
     class: Class,
     name: Name,
 )
-    ensures { Prints pen.old pen.new (word.now ++ class_attribute names.now class name) }
+    ensures { Prints pen.old pen.new (op_word word ++ class_attribute names.now class name) }
 {
-    pen.write(word);
+    pen.write(word.text());
     put_class_attribute(pen, names, class, name);
 }
 
-/// Prints a word with `#` after it, and an attribute of an object.
+/// Prints a word and an attribute of an object.
 fn put_of_object<K: Sink>(
     pen: &mut Pen<'_, K>,
     names: &Script,
-    word: &[u8],
+    word: OpWord,
     object: Obj,
     name: Name,
 )
-    ensures { Prints pen.old pen.new (word.now ++ decimal object ++ codes "." ++ text_at names.now.names name) }
+    ensures { Prints pen.old pen.new (op_word word ++ object_attribute names.now object name) }
 {
-    pen.write(word);
-    pen.number(u64::from(object.number()));
-    pen.write(b".");
-    put_name(pen, names, name);
+    pen.write(word.text());
+    put_object_attribute(pen, names, object, name);
 }
 
 fn put_type_set<K: Sink>(
@@ -80,7 +80,7 @@ fn put_type_set<K: Sink>(
     ensures { Prints pen.old pen.new
         (codes "put " ++ class_attribute names.now class name ++ value_item names.now value.now) }
 {
-    put_of_class(pen, names, b"put ", class, name);
+    put_of_class(pen, names, OpWord::Put, class, name);
     put_value_item(pen, names, value);
 }
 
@@ -88,33 +88,33 @@ fn put_set<K: Sink>(pen: &mut Pen<'_, K>, names: &Script, object: Obj, name: Nam
     ensures { Prints pen.old pen.new
         (codes "set " ++ object_attribute names.now object name ++ value_item names.now value.now) }
 {
-    put_of_object(pen, names, b"set #", object, name);
+    put_of_object(pen, names, OpWord::Set, object, name);
     put_value_item(pen, names, value);
 }
 
 fn put_set_class<K: Sink>(pen: &mut Pen<'_, K>, names: &Script, object: Obj, class: Class)
     ensures { Prints pen.old pen.new (codes "turn " ++ object_text object ++ class_item names.now class) }
 {
-    pen.write(b"turn ");
+    pen.write(OpWord::Turn.text());
     put_object(pen, object);
     put_class_item(pen, names, class);
 }
 
-/// Prints a word with a blank after it, and two objects.
-fn put_two_objects<K: Sink>(pen: &mut Pen<'_, K>, word: &[u8], first: Obj, second: Obj)
-    ensures { Prints pen.old pen.new (word.now ++ object_text first ++ codes " " ++ object_text second) }
+/// Prints a word and two objects.
+fn put_two_objects<K: Sink>(pen: &mut Pen<'_, K>, word: OpWord, first: Obj, second: Obj)
+    ensures { Prints pen.old pen.new (op_word word ++ object_text first ++ codes " " ++ object_text second) }
 {
-    pen.write(word);
+    pen.write(word.text());
     put_object(pen, first);
     pen.write(b" ");
     put_object(pen, second);
 }
 
-/// Prints a word with a blank after it, and an object.
-fn put_word_and_object<K: Sink>(pen: &mut Pen<'_, K>, word: &[u8], object: Obj)
-    ensures { Prints pen.old pen.new (word.now ++ object_text object) }
+/// Prints a word and an object.
+fn put_word_and_object<K: Sink>(pen: &mut Pen<'_, K>, word: OpWord, object: Obj)
+    ensures { Prints pen.old pen.new (op_word word ++ object_text object) }
 {
-    pen.write(word);
+    pen.write(word.text());
     put_object(pen, object);
 }
 
@@ -122,7 +122,7 @@ fn put_super<K: Sink>(pen: &mut Pen<'_, K>, names: &Script, class: Class, object
     ensures { Prints pen.old pen.new
         (codes "super " ++ text_at names.now.classes class ++ codes " " ++ object_attribute names.now object name) }
 {
-    put_word_and_class(pen, names, b"super ", class);
+    put_word_and_class(pen, names, OpWord::Super, class);
     pen.write(b" ");
     put_object_attribute(pen, names, object, name);
 }
@@ -132,21 +132,21 @@ pub fn put_op<K: Sink>(pen: &mut Pen<'_, K>, names: &Script, op: &Op)
     ensures { Prints pen.old pen.new (op_text names.now op.now) }
 {
     match op {
-        Op::Get(object, name) => put_of_object(pen, names, b"get #", *object, *name),
+        Op::Get(object, name) => put_of_object(pen, names, OpWord::Get, *object, *name),
         Op::Set(object, name, value) => put_set(pen, names, *object, *name, value),
         Op::TypeSet(class, name, value) => put_type_set(pen, names, *class, *name, value),
-        Op::TypeGet(class, name) => put_of_class(pen, names, b"cget ", *class, *name),
-        Op::Del(object, name) => put_of_object(pen, names, b"del #", *object, *name),
-        Op::New(class) => put_word_and_class(pen, names, b"new ", *class),
-        Op::NewClass(class, bases) => put_with_bases(pen, names, b"class ", *class, bases),
-        Op::SetBases(class, bases) => put_with_bases(pen, names, b"bases ", *class, bases),
-        Op::TypeDel(class, name) => put_of_class(pen, names, b"cut ", *class, *name),
+        Op::TypeGet(class, name) => put_of_class(pen, names, OpWord::Cget, *class, *name),
+        Op::Del(object, name) => put_of_object(pen, names, OpWord::Del, *object, *name),
+        Op::New(class) => put_word_and_class(pen, names, OpWord::New, *class),
+        Op::NewClass(class, bases) => put_with_bases(pen, names, OpWord::Class, *class, bases),
+        Op::SetBases(class, bases) => put_with_bases(pen, names, OpWord::Bases, *class, bases),
+        Op::TypeDel(class, name) => put_of_class(pen, names, OpWord::Cut, *class, *name),
         Op::SetClass(object, class) => put_set_class(pen, names, *object, *class),
-        Op::Share(object, other) => put_two_objects(pen, b"share ", *object, *other),
+        Op::Share(object, other) => put_two_objects(pen, OpWord::Share, *object, *other),
         Op::Super(class, object, name) => put_super(pen, names, *class, *object, *name),
-        Op::Special(object, name) => put_of_object(pen, names, b"special #", *object, *name),
-        Op::ClassOf(object) => put_word_and_object(pen, b"classof ", *object),
-        Op::Mro(class) => put_word_and_class(pen, names, b"mro ", *class),
+        Op::Special(object, name) => put_of_object(pen, names, OpWord::Special, *object, *name),
+        Op::ClassOf(object) => put_word_and_object(pen, OpWord::ClassOf, *object),
+        Op::Mro(class) => put_word_and_class(pen, names, OpWord::Mro, *class),
     }
 }
 
@@ -154,8 +154,8 @@ fn put_begin<K: Sink>(pen: &mut Pen<'_, K>, first: Obj, second: Option<Obj>)
     ensures { Prints pen.old pen.new (begin_text first second) }
 {
     match second {
-        Some(second) => put_two_objects(pen, b"begin ", first, second),
-        None => put_word_and_object(pen, b"begin ", first),
+        Some(second) => put_two_objects(pen, OpWord::Begin, first, second),
+        None => put_word_and_object(pen, OpWord::Begin, first),
     }
 }
 
@@ -166,6 +166,6 @@ pub fn put_line_op<K: Sink>(pen: &mut Pen<'_, K>, names: &Script, op: &LineOp)
     match op {
         LineOp::Of(op) => put_op(pen, names, op),
         LineOp::Begin(first, second) => put_begin(pen, *first, *second),
-        LineOp::Finish => pen.write(b"finish"),
+        LineOp::Finish => pen.write(OpWord::Finish.text()),
     }
 }

@@ -8,6 +8,7 @@ ghost use Rattle.at_text.specs.Values.{text_at, classes_text, value_text, value_
 
 use crate::pen::Pen;
 use crate::value::{put_class, put_classes, put_func, put_object, put_value, put_value_item};
+use crate::words::{INIT, ReplyWord, hook_text};
 use at_line::LineReply;
 use at_script::Script;
 use at_source::Sink;
@@ -16,10 +17,10 @@ use at_value::{Class, ClassList, Func, HookKind, Obj, Reply, Value};
 fn put_made<K: Sink>(pen: &mut Pen<'_, K>, names: &Script, object: Obj, init: &Option<Value>)
     ensures { Prints pen.old pen.new (made_text names.now object init.now) }
 {
-    pen.write(b"made ");
+    pen.write(ReplyWord::Made.text());
     put_object(pen, object);
     if let Some(init) = init {
-        pen.write(b" init ");
+        pen.write(INIT);
         put_value(pen, names, init);
     }
 }
@@ -27,7 +28,7 @@ fn put_made<K: Sink>(pen: &mut Pen<'_, K>, names: &Script, object: Obj, init: &O
 fn put_value_reply<K: Sink>(pen: &mut Pen<'_, K>, names: &Script, value: &Value)
     ensures { Prints pen.old pen.new (codes "value " ++ value_text names.now value.now) }
 {
-    pen.write(b"value ");
+    pen.write(ReplyWord::Value.text());
     put_value(pen, names, value);
 }
 
@@ -35,43 +36,29 @@ fn put_method<K: Sink>(pen: &mut Pen<'_, K>, names: &Script, func: Func, first: 
     ensures { Prints pen.old pen.new
         (codes "method " ++ text_at names.now.funcs func ++ value_item names.now first.now) }
 {
-    pen.write(b"method ");
+    pen.write(ReplyWord::Method.text());
     put_func(pen, names, func);
     put_value_item(pen, names, first);
-}
-
-fn put_hook_word<K: Sink>(pen: &mut Pen<'_, K>, kind: HookKind)
-    ensures { Prints pen.old pen.new (hook_word kind) }
-{
-    match kind {
-        HookKind::Getter => pen.write(b"getter"),
-        HookKind::Setter => pen.write(b"setter"),
-        HookKind::Deleter => pen.write(b"deleter"),
-        HookKind::DescGet => pen.write(b"dget"),
-        HookKind::DescSet => pen.write(b"dset"),
-        HookKind::DescDel => pen.write(b"ddel"),
-        HookKind::GetAttr => pen.write(b"getattr"),
-    }
 }
 
 fn put_hook<K: Sink>(pen: &mut Pen<'_, K>, kind: HookKind)
     ensures { Prints pen.old pen.new (codes "hook " ++ hook_word kind) }
 {
-    pen.write(b"hook ");
-    put_hook_word(pen, kind);
+    pen.write(ReplyWord::Hook.text());
+    pen.write(hook_text(kind));
 }
 
 fn put_order<K: Sink>(pen: &mut Pen<'_, K>, names: &Script, order: &ClassList)
     ensures { Prints pen.old pen.new (codes "order" ++ classes_text names.now order.now) }
 {
-    pen.write(b"order");
+    pen.write(ReplyWord::Order.text());
     put_classes(pen, names, order);
 }
 
 fn put_no_order<K: Sink>(pen: &mut Pen<'_, K>, names: &Script, class: Class)
     ensures { Prints pen.old pen.new (codes "noorder " ++ text_at names.now.classes class) }
 {
-    pen.write(b"noorder ");
+    pen.write(ReplyWord::NoOrder.text());
     put_class(pen, names, class);
 }
 
@@ -81,8 +68,8 @@ pub fn put_reply<K: Sink>(pen: &mut Pen<'_, K>, names: &Script, reply: &Reply)
 {
     match reply {
         Reply::Value(value) => put_value_reply(pen, names, value),
-        Reply::Done => pen.write(b"done"),
-        Reply::NoAttr => pen.write(b"noattr"),
+        Reply::Done => pen.write(ReplyWord::Done.text()),
+        Reply::NoAttr => pen.write(ReplyWord::NoAttr.text()),
         Reply::Method(func, first) => put_method(pen, names, *func, first),
         Reply::Made(object, init) => put_made(pen, names, *object, init),
         Reply::Hook(kind, callee, receiver, other, value) => {
@@ -93,25 +80,25 @@ pub fn put_reply<K: Sink>(pen: &mut Pen<'_, K>, names: &Script, reply: &Reply)
             put_value_item(pen, names, value);
         }
         Reply::Order(order) => put_order(pen, names, order),
-        Reply::NoGetter => pen.write(b"nogetter"),
-        Reply::NoSetter => pen.write(b"nosetter"),
-        Reply::NoDeleter => pen.write(b"nodeleter"),
-        Reply::NoClass => pen.write(b"noclass"),
-        Reply::NameTaken => pen.write(b"nametaken"),
-        Reply::EmptyBases => pen.write(b"emptybases"),
-        Reply::Duplicate => pen.write(b"duplicate"),
-        Reply::Cycle => pen.write(b"cycle"),
+        Reply::NoGetter => pen.write(ReplyWord::NoGetter.text()),
+        Reply::NoSetter => pen.write(ReplyWord::NoSetter.text()),
+        Reply::NoDeleter => pen.write(ReplyWord::NoDeleter.text()),
+        Reply::NoClass => pen.write(ReplyWord::NoClass.text()),
+        Reply::NameTaken => pen.write(ReplyWord::NameTaken.text()),
+        Reply::EmptyBases => pen.write(ReplyWord::EmptyBases.text()),
+        Reply::Duplicate => pen.write(ReplyWord::Duplicate.text()),
+        Reply::Cycle => pen.write(ReplyWord::Cycle.text()),
         Reply::NoOrder(class) => put_no_order(pen, names, *class),
-        Reply::Immutable => pen.write(b"immutable"),
-        Reply::NotSubclass => pen.write(b"notsubclass"),
-        Reply::Full => pen.write(b"full"),
+        Reply::Immutable => pen.write(ReplyWord::Immutable.text()),
+        Reply::NotSubclass => pen.write(ReplyWord::NotSubclass.text()),
+        Reply::Full => pen.write(ReplyWord::Full.text()),
     }
 }
 
 fn put_suspended<K: Sink>(pen: &mut Pen<'_, K>, times: u32)
     ensures { Prints pen.old pen.new (codes "suspended " ++ decimal times) }
 {
-    pen.write(b"suspended ");
+    pen.write(ReplyWord::Suspended.text());
     pen.number(u64::from(times));
 }
 
@@ -121,7 +108,7 @@ pub fn put_line_reply<K: Sink>(pen: &mut Pen<'_, K>, names: &Script, reply: &Lin
 {
     match reply {
         LineReply::Of(reply) => put_reply(pen, names, reply),
-        LineReply::Kept => pen.write(b"kept"),
+        LineReply::Kept => pen.write(ReplyWord::Kept.text()),
         LineReply::Suspended(times) => put_suspended(pen, *times),
     }
 }

@@ -13,6 +13,7 @@ use crate::last::put_final;
 use crate::line::put_line;
 use crate::order::ByBytes;
 use crate::pen::Pen;
+use crate::words::{HEADER, LINES, SCRIPT};
 use at_line::{Lines, Ran};
 use at_script::Script;
 use at_source::{Failed, Page, Sink};
@@ -55,7 +56,8 @@ impl From<Failed> for PrintFault {
 fn put_script<K: Sink>(pen: &mut Pen<'_, K>, script: &[u8])
     ensures { Prints pen.old pen.new (script_text script.now) }
 {
-    pen.write(b"attrs transcript 1\nscript ");
+    pen.write(HEADER);
+    pen.write(SCRIPT);
     pen.number(script.len() as u64);
     pen.write(b"\n");
     pen.write(script);
@@ -74,7 +76,7 @@ fn put_line_at<K: Sink>(pen: &mut Pen<'_, K>, names: &Script, lines: &Lines, i: 
 fn put_lines<K: Sink>(pen: &mut Pen<'_, K>, names: &Script, lines: &Lines)
     ensures { Prints pen.old pen.new (lines_text names.now lines.now) }
 {
-    pen.write(b"lines ");
+    pen.write(LINES);
     pen.number(lines.len() as u64);
     pen.write(b"\n");
     for i in 0..lines.len() {

@@ -7,6 +7,7 @@ ghost use Rattle.at_text.specs.Values.{text_at, object_text, object_attribute, c
 ghost use Rattle.at_text.specs.Values.{class_item_at, classes_text, part_text, property_text, value_text, value_item};
 
 use crate::pen::Pen;
+use crate::words::{CLASSM, NONE, PROP, STATIC};
 use at_script::Script;
 use at_source::Sink;
 use at_value::{Bases, Class, ClassList, Func, Name, Obj, Prop, Value};
@@ -124,7 +125,7 @@ fn put_part<K: Sink>(pen: &mut Pen<'_, K>, names: &Script, part: Option<Func>)
 fn put_property<K: Sink>(pen: &mut Pen<'_, K>, names: &Script, property: Prop)
     ensures { Prints pen.old pen.new (property_text names.now property) }
 {
-    pen.write(b"prop:");
+    pen.write(PROP);
     put_part(pen, names, property.get());
     pen.write(b",");
     put_part(pen, names, property.set());
@@ -153,14 +154,14 @@ pub fn put_value<K: Sink>(pen: &mut Pen<'_, K>, names: &Script, value: &Value)
 {
     match value {
         Value::Int(number) => pen.signed(*number),
-        Value::Nothing => pen.write(b"none"),
+        Value::Nothing => pen.write(NONE),
         Value::Obj(object) => put_object(pen, *object),
         Value::Text(text) => put_quoted(pen, names, *text),
         Value::Func(func) => put_func(pen, names, *func),
         Value::Class(class) => put_class(pen, names, *class),
         Value::Prop(property) => put_property(pen, names, *property),
-        Value::Static(func) => put_word_and_func(pen, names, b"static:", *func),
-        Value::ClassM(func) => put_word_and_func(pen, names, b"classm:", *func),
+        Value::Static(func) => put_word_and_func(pen, names, STATIC, *func),
+        Value::ClassM(func) => put_word_and_func(pen, names, CLASSM, *func),
     }
 }
 

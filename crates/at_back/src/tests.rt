@@ -1,0 +1,2 @@
+//! Pieces of a transcript that are read.
+mod pieces;
