@@ -26,8 +26,9 @@ use Rattle.at_core.specs.HeadSteps.{head_loaded}
 use Rattle.at_core.specs.Passes.{view, IsSame, HasSameHand}
 use Rattle.at_core.specs.Steps.{mark}
 use Rattle.at_section.specs.Surfaces.{TypesSurface}
-use Rattle.at_call.specs.UnderWay.{IsIdle, Rests}
-use Rattle.at_call.proofs.Keeping.{surface_rests}
+use Rattle.at_core.proofs.Prefixes.{prefix_self}
+use Rattle.at_call.specs.Loads.{OnlyLoads, Rests}
+use Rattle.at_call.proofs.Keeping.{surface_loads}
 use Rattle.at_call.proofs.Reading.{unchanged_seen}
 
 abbrev pub class_at : Option Object → Option ℕ
@@ -84,25 +85,19 @@ class_found v o word at keys_are kept types shut saw less =
 
 pub rests_looked : (p q : Pass) (o word : ℕ) (at : List op.Op) → IsSame p q → HasSameHand p q → view q ≡ head_loaded (view p) o at word → Rests p q
 rests_looked p q o word at same hand after = record {
-  same = same;
-  hand = hand;
-  idle = subst (IsIdle (view p)) (sym after) (record {
-    who = refl;
-    history = refl;
-    joined = refl;
-    intent = refl;
-    types = refl;
-    holds = refl;
-    rows = refl;
-    tags = refl;
-    read = refl;
-    write = refl;
-    kept = refl;
-    marks = mark kinds.HeadLoad (head o) (Some word) (Some word) ∷ [];
-    trace = refl;
-    loads = All-cons (λ m. IsTrue (is_fast_load m.kind)) _ [] refl (All-nil (λ m. IsTrue (is_fast_load m.kind)));
-  });
+  loads = record {
+    same = same;
+    hand = hand;
+    only = subst (OnlyLoads (view p)) (sym after) (record {
+      still = refl;
+      later = prefix_self (view p).history.seen;
+      marks = mark kinds.HeadLoad (head o) (Some word) (Some word) ∷ [];
+      trace = refl;
+      loads = All-cons (λ m. IsTrue (is_fast_load m.kind)) _ [] refl (All-nil (λ m. IsTrue (is_fast_load m.kind)));
+    });
+  };
+  seen = ap (λ v. v.history.seen) after;
 }
 
 pub surface_looked : (p q : Pass) (o word : ℕ) (at : List op.Op) → IsSame p q → HasSameHand p q → view q ≡ head_loaded (view p) o at word → TypesSurface p → TypesSurface q
-surface_looked p q o word at same hand after = surface_rests p q (rests_looked p q o word at same hand after)
+surface_looked p q o word at same hand after = surface_loads p q (rests_looked p q o word at same hand after).loads

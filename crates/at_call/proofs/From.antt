@@ -11,7 +11,9 @@ use Rattle.at_core.proofs.PassSteps.{same_then}
 use Rattle.at_core.proofs.Prefixes.{prefix_self, prefix_trans}
 use Rattle.at_section.specs.Calls.{Adds, IsLeft, IsSamePass}
 use Rattle.at_view.specs.declared.mark.Mark.{Mark}
-use Rattle.at_call.specs.UnderWay.{HasStep, IsFrom, Rests}
+use Rattle.at_call.specs.Loads.{Still, OnlyLoads, Loads, Rests}
+use Rattle.at_call.specs.UnderWay.{HasStep, IsFrom}
+use Rattle.at_view.specs.declared.view.View.{View}
 use Rattle.at_call.proofs.Marks.{has_more}
 
 abbrev pub from_then : (p q r : Pass) → IsFrom p q → IsFrom q r → IsFrom p r
@@ -46,43 +48,40 @@ from_left ls p q same left adds = record {
 }
 
 -- one that only loaded
-abbrev pub from_rests : (p q : Pass) → Rests p q → IsFrom p q
-from_rests p q r = record {
+abbrev pub from_loads : (p q : Pass) → Loads p q → IsFrom p q
+from_loads p q r = record {
   same = record { table = r.same.table; seat = r.same.seat; number = r.same.number };
-  who = r.idle.who;
-  birth = ap (λ h. h.birth) r.idle.history;
-  later = subst (IsPrefix (view p).history.seen) (sym (ap (λ h. h.seen) r.idle.history)) (prefix_self (view p).history.seen);
-  joined = r.idle.joined;
-  tags = r.idle.tags;
-  read = r.idle.read;
-  write = r.idle.write;
-  kept = r.idle.kept;
-  marks = r.idle.marks;
-  trace = r.idle.trace;
+  who = ap (λ (x : Still). x.who) r.only.still;
+  birth = ap (λ (x : Still). x.birth) r.only.still;
+  later = r.only.later;
+  joined = ap (λ (x : Still). x.joined) r.only.still;
+  tags = ap (λ (x : Still). x.tags) r.only.still;
+  read = ap (λ (x : Still). x.read) r.only.still;
+  write = ap (λ (x : Still). x.write) r.only.still;
+  kept = ap (λ (x : Still). x.kept) r.only.still;
+  marks = r.only.marks;
+  trace = r.only.trace;
 }
 
--- one that only loaded, and then only loaded
-pub rests_then : (p q r : Pass) → Rests p q → Rests q r → Rests p r
-rests_then p q r a b = record {
+-- loads, and then more of them
+abbrev pub only_then : (u v w : View) → OnlyLoads u v → OnlyLoads v w → OnlyLoads u w
+only_then u v w a b = record {
+  still = b.still ∙ a.still;
+  later = prefix_trans u.history.seen v.history.seen w.history.seen a.later b.later;
+  marks = a.marks ++ b.marks;
+  trace = b.trace ∙ (ap (λ t. t ++ b.marks) a.trace ∙ append_assoc u.trace a.marks b.marks);
+  loads = All-append (λ m. IsTrue (is_fast_load m.kind)) a.marks b.marks a.loads b.loads;
+}
+
+pub loads_then : (p q r : Pass) → Loads p q → Loads q r → Loads p r
+loads_then p q r a b = record {
   same = same_then p q r a.same b.same;
   hand = λ l. b.hand l ∙ a.hand l;
-  idle = record {
-    who = b.idle.who ∙ a.idle.who;
-    history = b.idle.history ∙ a.idle.history;
-    joined = b.idle.joined ∙ a.idle.joined;
-    intent = b.idle.intent ∙ a.idle.intent;
-    types = b.idle.types ∙ a.idle.types;
-    holds = b.idle.holds ∙ a.idle.holds;
-    rows = b.idle.rows ∙ a.idle.rows;
-    tags = b.idle.tags ∙ a.idle.tags;
-    read = b.idle.read ∙ a.idle.read;
-    write = b.idle.write ∙ a.idle.write;
-    kept = b.idle.kept ∙ a.idle.kept;
-    marks = a.idle.marks ++ b.idle.marks;
-    trace = b.idle.trace ∙ (ap (λ t. t ++ b.idle.marks) a.idle.trace ∙ append_assoc (view p).trace a.idle.marks b.idle.marks);
-    loads = All-append (λ m. IsTrue (is_fast_load m.kind)) a.idle.marks b.idle.marks a.idle.loads b.idle.loads;
-  };
+  only = only_then (view p) (view q) (view r) a.only b.only;
 }
+
+pub rests_then : (p q r : Pass) → Rests p q → Rests q r → Rests p r
+rests_then p q r a b = record { loads = loads_then p q r a.loads b.loads; seen = b.seen ∙ a.seen }
 
 -- one of the steps, and then more steps
 pub step_more : {P : Mark → Type 0} → (p q r : Pass) → HasStep P p q → IsFrom q r → HasStep P p r

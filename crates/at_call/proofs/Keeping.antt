@@ -31,10 +31,11 @@ use Rattle.at_section.specs.Deeds.{held}
 use Rattle.at_section.specs.Quiet.{AreQuiet, GoesOn}
 use Rattle.at_section.specs.Surfaces.{TypesSurface}
 use Rattle.at_section.proofs.Begun.{kept_loaded}
-use Rattle.at_section.proofs.Holdings.{value_stays, IsBeside}
+use Rattle.at_section.proofs.Holdings.{rows_stay, value_stays, IsBeside}
 use Rattle.at_section.proofs.Outside.{are_held_as}
 use Rattle.at_section.proofs.Standing.{same_held, hold_loaded}
-use Rattle.at_call.specs.UnderWay.{HasInHand, IsIdle, MayGoBack, Rests, seen_world}
+use Rattle.at_call.specs.Loads.{Still, OnlyLoads, Loads, Rests}
+use Rattle.at_call.specs.UnderWay.{HasInHand, MayGoBack, seen_world}
 use Rattle.at_call.proofs.Marks.{loads_quiet}
 
 -- Holds and copies
@@ -46,12 +47,17 @@ pub record IsHeldBy (v w : View) : Type 0 where
   pub rows : w.rows ≡ v.rows
   pub lists : w.types.lists ≡ v.types.lists
 
-pub held_idle : (v w : View) → IsIdle v w → IsHeldBy v w
-held_idle v w i = record { limits = ap (λ x. x.limits) i.who; hold = hold; rows = i.rows; lists = ap (λ x. x.lists) i.types }
+pub held_loads : (v w : View) → OnlyLoads v w → IsHeldBy v w
+held_loads v w i = record {
+  limits = ap (λ (x : Still). x.who.limits) i.still;
+  hold = hold;
+  rows = ap (λ (x : Still). x.rows) i.still;
+  lists = ap (λ (x : Still). x.types.lists) i.still;
+}
   where
     hold : (l : lock.Lock) → hold_of l w ≡ hold_of l v
-    hold locks.Types = ap (λ x. x.hold) i.types
-    hold (locks.Row o) = ap (λ x. hold_of (locks.Row o) (record v { holds = x })) i.holds
+    hold locks.Types = ap (λ (x : Still). x.types.hold) i.still
+    hold (locks.Row o) = ap (λ (x : Still). hold_of (locks.Row o) (record v { holds = x.holds })) i.still
 
 pub held_place : (v : View) (at : List op.Op) → IsHeldBy v (place_loaded v at)
 held_place v at = record { limits = refl; hold = λ l. hold_loaded l v at; rows = refl; lists = refl }
@@ -66,8 +72,8 @@ has_held v w l h = ap (λ x. x.held) (h.hold l)
 pub on_held : (v w : View) → IsHeldBy v w → (marks : List Mark) → w.trace ≡ v.trace ++ marks → AreQuiet marks → GoesOn v w
 on_held v w h marks trace quiet = record { marks = marks; trace = trace; quiet = quiet; locks = λ l. record { held = has_held v w l h; entered = λ has. ap (λ x. x.entered) (h.hold l) } }
 
-pub on_idle : (v w : View) → IsIdle v w → GoesOn v w
-on_idle v w i = on_held v w (held_idle v w i) i.marks i.trace (loads_quiet i.marks i.loads)
+pub on_loads : (v w : View) → OnlyLoads v w → GoesOn v w
+on_loads v w i = on_held v w (held_loads v w i) i.marks i.trace (loads_quiet i.marks i.loads)
 
 -- Sections
 
@@ -78,6 +84,7 @@ surface_held p q same hand h s =
       held = are_held_as p q (same_held (held (view p)) (held (view q)) (λ l. has_held (view p) (view q) l h)) noted s.held;
       values = λ l ne has. value_stays p q l (hand l) h.limits (h.hold l) (beside_held l (view p) (view q) h) (s.values l ne (sym (has_held (view p) (view q) l h) ∙ has));
       shut = λ o has. subst IsWhole (sym (ap (λ x. (copy_at o x).head) h.rows)) (s.shut o (sym (has_held (view p) (view q) (locks.Row o) h) ∙ has));
+      rows = rows_stay (view p) (view q) (λ o has. (sym (has_held (view p) (view q) (locks.Row o) h) ∙ has, ap (λ x. (copy_at o x).head) h.rows)) s.rows;
       out = record { held = has_held (view p) (view q) locks.Types h ∙ s.out.held; out = hand locks.Types ∙ s.out.out };
       around = s.around;
       innermost = s.innermost;
@@ -87,8 +94,8 @@ surface_held p q same hand h s =
       plain = s.plain;
     }
 
-pub surface_rests : (p q : Pass) → Rests p q → TypesSurface p → TypesSurface q
-surface_rests p q r = surface_held p q r.same r.hand (held_idle (view p) (view q) r.idle)
+pub surface_loads : (p q : Pass) → Loads p q → TypesSurface p → TypesSurface q
+surface_loads p q r = surface_held p q r.same r.hand (held_loads (view p) (view q) r.only)
 
 -- What locks have kept
 
@@ -104,11 +111,14 @@ kept_at opened (locks.Row o) v w hold history k = record {
   excludes = subst (λ (h : Hold). AvoidsRow opened h.entered w.history.own w.history.seen o) (sym hold) (subst (λ (x : HistoryView). AvoidsRow opened (hold_of (locks.Row o) v).entered x.own x.seen o) (sym history) k.excludes);
 }
 
+same_history : (p q : Pass) → Rests p q → (view q).history ≡ (view p).history
+same_history p q r = λ i. record { birth = (ap (λ (x : Still). x.birth) r.loads.only.still) i; seen = r.seen i; own = (ap (λ (x : Still). x.own) r.loads.only.still) i }
+
 pub kept_rests : (p q : Pass) → Rests p q → AreKept (opening_of (view p).who.limits) (view p) → AreKept (opening_of (view q).who.limits) (view q)
 kept_rests p q r kept l has =
-    let h = held_idle (view p) (view q) r.idle in
+    let h = held_loads (view p) (view q) r.loads.only in
     subst (λ (x : Limits). IsKeptAt (opening_of x) l (view q) (view q).history.seen) (sym h.limits)
-    (kept_at (opening_of (view p).who.limits) l (view p) (view q) (h.hold l) r.idle.history (kept l (sym (has_held (view p) (view q) l h) ∙ has)))
+    (kept_at (opening_of (view p).who.limits) l (view p) (view q) (h.hold l) (same_history p q r) (kept l (sym (has_held (view p) (view q) l h) ∙ has)))
 
 pub kept_place : (v : View) (at : List op.Op) → Saw (opening_of v.who.limits) v at → AreKept (opening_of v.who.limits) (place_loaded v at)
 kept_place v at saw = kept_loaded (opening_of v.who.limits) v at saw.kept
@@ -116,7 +126,7 @@ kept_place v at saw = kept_loaded (opening_of v.who.limits) v at saw.kept
 -- The types in hand
 
 pub world_rests : (p q : Pass) → Rests p q → seen_world q ≡ seen_world p
-world_rests p q r = ap (λ (x : Limits). replay (opening_of x) (view q).history.seen) (ap (λ x. x.limits) r.idle.who) ∙ ap (λ (x : HistoryView). replay (opening_of (view p).who.limits) x.seen) r.idle.history
+world_rests p q r = ap (λ (h : List op.Op). replay (opening_of (view p).who.limits) h) r.seen
 
 agree_held : (v w : View) (at now : List op.Op) (t : TypesState) → IsHeldBy v w → at ≡ now → TypesAgree v.who.limits.tags (replay (opening_of v.who.limits) at) v.types.lists t
     → TypesAgree w.who.limits.tags (replay (opening_of w.who.limits) now) w.types.lists t
@@ -127,11 +137,11 @@ agree_held v w at now t h same a =
 
 pub hand_rests : (p q : Pass) (t : TypesState) → Rests p q → HasInHand p t → HasInHand q t
 hand_rests p q t r hand =
-    let h = held_idle (view p) (view q) r.idle in
+    let h = held_loads (view p) (view q) r.loads.only in
     record {
       kept = kept_rests p q r hand.kept;
       back = agree_held (view p) (view q) _ _ t h (sym (ap (λ x. x.since) (h.hold locks.Types))) hand.back;
-      now = agree_held (view p) (view q) _ _ t h (sym (ap (λ x. x.seen) r.idle.history)) hand.now;
+      now = agree_held (view p) (view q) _ _ t h (sym r.seen) hand.now;
     }
 
 -- the types of what their lock kept, where locks have kept what they protect

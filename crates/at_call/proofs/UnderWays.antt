@@ -26,10 +26,11 @@ use Rattle.at_section.proofs.Quiet.{quiet_steps_stay}
 use Rattle.at_section.proofs.Settling.{all_has, last_one}
 use Rattle.at_section.proofs.Standing.{word_apart}
 use Rattle.at_call.specs.Done.{IsAnswered, IsDone, Leaves}
+use Rattle.at_call.specs.Loads.{Loads}
 use Rattle.at_call.specs.UnderWay.{IsFrom, IsUnderWay, Rests}
-use Rattle.at_call.proofs.From.{from_left, from_rests, from_then}
+use Rattle.at_call.proofs.From.{from_left, from_loads, from_then}
 use Rattle.at_call.proofs.Growing.{answered_later}
-use Rattle.at_call.proofs.Keeping.{on_idle, on_placed}
+use Rattle.at_call.proofs.Keeping.{on_loads, on_placed}
 use Rattle.at_call.proofs.Marks.{has_more, types_taken}
 
 -- Where no section names the lock of the types
@@ -81,8 +82,8 @@ under_quiet ls p q r u from settled on noted = record {
   stay = λ starts sections. let (s, now) = u.stay starts sections in (s, quiet_steps_stay q r settled on noted (starts ++ s ∷ []) now);
 }
 
-pub under_rests : (ls : List lock.Lock) (p q r : Pass) → IsUnderWay ls p q → TypesSurface q → Rests q r → IsUnderWay ls p r
-under_rests ls p q r u s rests = under_quiet ls p q r u (from_rests q r rests) s.held.settled (on_idle (view q) (view r) rests.idle) (ap (λ x. x.items) rests.same.notes)
+pub under_loads : (ls : List lock.Lock) (p q r : Pass) → IsUnderWay ls p q → TypesSurface q → Loads q r → IsUnderWay ls p r
+under_loads ls p q r u s loads = under_quiet ls p q r u (from_loads q r loads) s.held.settled (on_loads (view q) (view r) loads.only) (ap (λ x. x.items) loads.same.notes)
 
 -- It ends
 

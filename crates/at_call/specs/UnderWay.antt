@@ -1,18 +1,17 @@
 -- A call under way: the pass is in the section that the call began, and has the types in hand.
-use Rattle.std.specs.Prelude.{◌≡◌, List, [], ◌∷◌, ◌++◌, IsTrue, All}
+use Rattle.std.specs.Prelude.{◌≡◌, List, [], ◌∷◌, ◌++◌}
 use mathlib.Core.List.{IsPrefix}
 use Rattle.at_model.specs.World.{World}
 use Rattle.at_model.specs.History.{replay}
 use Rattle.at_types.specs.Types.{TypesState}
 use Rattle.at_view.specs.declared.mark.Mark.{Mark}
-use Rattle.at_view.specs.declared.view.View.{View}
 use Rattle.at_core.specs.declared.lock.Lock as lock
 use Rattle.at_core.specs.declared.lock.Lock.TheVariants as locks
 use Rattle.at_core.specs.declared.world.Pass.{Pass}
-use Rattle.at_core.specs.Backed.{Has, TakesTypes, is_fast_load}
+use Rattle.at_core.specs.Backed.{Has, TakesTypes}
 use Rattle.at_core.specs.Locks.{hold_of, AreKept}
 use Rattle.at_core.specs.Opened.{opening_of}
-use Rattle.at_core.specs.Passes.{notes, view, IsSame, HasSameHand}
+use Rattle.at_core.specs.Passes.{notes, view}
 use Rattle.at_core.specs.Rule.{TypesAgree}
 use Rattle.at_section.specs.Calls.{IsSamePass}
 use Rattle.at_section.specs.Scores.{Start}
@@ -60,26 +59,3 @@ pub record HasInHand (p : Pass) (t : TypesState) : Type 0 where
   pub kept : AreKept (opening_of (view p).who.limits) (view p)
   pub back : MayGoBack p t
   pub now : TypesAgree (view p).who.limits.tags (seen_world p) (view p).types.lists t
-
--- The view has only more loads: what it has seen, its locks and the copies that it has by them are as they were.
-pub record IsIdle (v w : View) : Type 0 where
-  pub who : w.who ≡ v.who
-  pub history : w.history ≡ v.history
-  pub joined : w.joined ≡ v.joined
-  pub intent : w.intent ≡ v.intent
-  pub types : w.types ≡ v.types
-  pub holds : w.holds ≡ v.holds
-  pub rows : w.rows ≡ v.rows
-  pub tags : w.tags ≡ v.tags
-  pub read : w.read ≡ v.read
-  pub write : w.write ≡ v.write
-  pub kept : w.kept ≡ v.kept
-  pub marks : List Mark
-  pub trace : w.trace ≡ v.trace ++ marks
-  pub loads : All (λ m. IsTrue (is_fast_load m.kind)) marks
-
--- the pass only loaded
-pub record Rests (p q : Pass) : Type 0 where
-  pub same : IsSame p q
-  pub hand : HasSameHand p q
-  pub idle : IsIdle (view p) (view q)

@@ -28,6 +28,7 @@ use Rattle.at_core.proofs.Giving.{agrees_later}
 use Rattle.at_core.proofs.Written.{leaves_rows, replay_paired, replay_snoc}
 use Rattle.at_lock.specs.Holding.{HasValue, IsRight}
 use Rattle.at_section.specs.Surfaces.{TypesSurface}
+use Rattle.at_section.proofs.Holdings.{rows_stay}
 use Rattle.at_section.proofs.Outside.{are_held_as}
 use Rattle.at_section.proofs.Standing.{same_held}
 use Rattle.at_section.specs.Deeds.{held}
@@ -113,6 +114,7 @@ surface_written p q at operation class saw same hand after s =
       held = are_held_as p q (same_held (held (view p)) (held (view q)) has) noted s.held;
       values = values has;
       shut = λ o there. subst IsWhole (sym (heads o)) (s.shut o (sym (has (locks.Row o)) ∙ there));
+      rows = rows_stay (view p) (view q) (λ o there. (sym (has (locks.Row o)) ∙ there, heads o)) s.rows;
       out = record { held = has locks.Types ∙ s.out.held; out = hand locks.Types ∙ s.out.out };
       around = s.around;
       innermost = s.innermost;

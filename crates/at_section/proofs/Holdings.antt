@@ -11,12 +11,12 @@ use Rattle.at_core.specs.declared.lock.Lock as lock
 use Rattle.at_core.specs.declared.lock.Lock.TheVariants as locks
 use Rattle.at_core.specs.declared.stored.Stored.{Stored}
 use Rattle.at_core.specs.declared.world.Pass.{Pass}
-use Rattle.at_core.specs.Heads.{shape_of, IsWhole}
+use Rattle.at_core.specs.Heads.{shape_of, HasDictionary, IsWhole}
 use Rattle.at_core.specs.Locks.{slot_of, hold_of, holds, HoldsNone}
 use Rattle.at_core.specs.Opened.{opening_of}
 use Rattle.at_core.specs.Passes.{view, slot_at, IsNoted, IsElsewhereSame, HasSameHand}
 use Rattle.at_core.specs.PlaceSteps.{place_loaded}
-use Rattle.at_core.specs.Plays.{RowSays}
+use Rattle.at_core.specs.Plays.{RowSays, RowsAreNamed}
 use Rattle.at_core.specs.Reads.{in_hand}
 use Rattle.at_core.specs.Rule.{Agrees}
 use Rattle.at_core.specs.Steps.{Moment, taken, missed, given, copied_heads, IsShut}
@@ -70,6 +70,19 @@ beside_same : (k : lock.Lock) (v w : View) → w ≡ v → IsBeside k v w
 beside_same locks.Types v w e = ap (λ x. x.types.lists) e
 beside_same (locks.Row o) v w e = ap (λ x. copied_heads x o) e
 
+-- Rows whose dictionaries are named
+
+-- where each row that is held was held, with the same head
+pub rows_stay : (v w : View) → ((o : ℕ) → holds (locks.Row o) w ≡ true → (holds (locks.Row o) v ≡ true) × (copied_heads w o ≡ copied_heads v o)) → RowsAreNamed v → RowsAreNamed w
+rows_stay v w same rows r has (o, held, dictionary, names) =
+    let of_r = same r has in
+    let of_o = same o held in
+    subst (λ (head : ℕ). HasDictionary (shape_of head)) (sym of_r.1)
+    (rows r of_r.0 (o, of_o.0, subst (λ (head : ℕ). HasDictionary (shape_of head)) of_o.1 dictionary, ap (λ (head : ℕ). (shape_of head).row) (sym of_o.1) ∙ names))
+
+pub rows_same : (p q : Pass) → view q ≡ view p → RowsAreNamed (view p) → RowsAreNamed (view q)
+rows_same p q e = subst RowsAreNamed (sym e)
+
 -- Each step
 
 to_view : (k : lock.Lock) (v w u : View) → u ≡ w → IsBeside k v w → IsBeside k v u
@@ -88,6 +101,7 @@ ready_noted p q same r =
     record {
       values = λ k has. value_stays p q k (ap (λ s. in_hand (slot_of k) s.me.1) same.seat) (ap (λ v. v.who.limits) e) (ap (hold_of k) e) (beside_same k (view p) (view q) e) (r.values k (sym (ap (holds k) e) ∙ has));
       shut = λ o has. whole_head o (view p) (view q) e (r.shut o (sym (ap (holds (locks.Row o)) e) ∙ has));
+      rows = rows_same p q e r.rows;
     }
 
 pub ready_taken : (p q : Pass) (l : lock.Lock) → holds l (view p) ≡ false → IsTakenAtOnce l (view p) (view q) → HasValue q l → IsElsewhereSame p q l → IsReady p → IsReady q
@@ -104,6 +118,7 @@ ready_taken p q l out t value elsewhere r = record {
       (subst IsWhole (sym (ap (λ x. x.head) (copy_beside o l (view p) t.at ne)))
       (r.shut o (sym (ap (holds (locks.Row o)) t.after ∙ ap (λ h. h.held) (hold_beside (locks.Row o) l (view p) t.at ne)) ∙ has))))
       (lock_cases (locks.Row o) l);
+  rows = subst RowsAreNamed (sym t.after) t.took.named;
 }
 
 pub ready_given : (p q : Pass) (l : lock.Lock) → view q ≡ given l (view p) → IsElsewhereSame p q l → IsReady p → IsReady q
@@ -118,6 +133,10 @@ ready_given p q l e elsewhere r = record {
       (λ (same : locks.Row o ≡ l). absurd (true≢false (sym has ∙ (ap (λ (x : lock.Lock). holds x (view q)) same ∙ (ap (holds l) e ∙ ap (λ h. h.held) (hold_given l (view p)))))))
       (λ (ne : locks.Row o ≢ l). whole_head o (given l (view p)) (view q) e (r.shut o (sym (ap (holds (locks.Row o)) e ∙ ap (λ h. h.held) (hold_kept (locks.Row o) l (view p) ne)) ∙ has)))
       (lock_cases (locks.Row o) l);
+  rows = rows_stay (view p) (view q) (λ o has. ⊎_elim
+      (λ (same : locks.Row o ≡ l). absurd (true≢false (sym has ∙ (ap (λ (x : lock.Lock). holds x (view q)) same ∙ (ap (holds l) e ∙ ap (λ h. h.held) (hold_given l (view p)))))))
+      (λ (ne : locks.Row o ≢ l). (sym (ap (holds (locks.Row o)) e ∙ ap (λ h. h.held) (hold_kept (locks.Row o) l (view p) ne)) ∙ has, ap (λ v. copied_heads v o) e))
+      (lock_cases (locks.Row o) l)) r.rows;
 }
 
 pub ready_missed : (p q : Pass) (l : lock.Lock) (n : ℕ) → holds l (view p) ≡ false → view q ≡ missed l (view p) n → IsElsewhereSame p q l → IsReady p → IsReady q
@@ -127,12 +146,14 @@ ready_missed p q l n out e elsewhere r = record {
       let ne : k ≢ l = λ same. true≢false (sym was ∙ (ap (λ (x : lock.Lock). holds x (view p)) same ∙ out)) in
       value_stays p q k (elsewhere k ne) (ap (λ v. v.who.limits) e) (ap (hold_of k) e ∙ hold_missed k l (view p) n) (to_view k (view p) (missed l (view p) n) (view q) e (beside_missed k l (view p) n)) (r.values k was);
   shut = λ o has. whole_head o (missed l (view p) n) (view q) e (r.shut o (sym (ap (holds (locks.Row o)) e ∙ holds_missed (locks.Row o) l (view p) n) ∙ has));
+  rows = rows_stay (view p) (view q) (λ o has. (sym (ap (holds (locks.Row o)) e ∙ holds_missed (locks.Row o) l (view p) n) ∙ has, ap (λ v. copied_heads v o) e)) r.rows;
 }
 
 pub ready_loaded : (p q : Pass) (at : List op.Op) → view q ≡ place_loaded (view p) at → HasSameHand p q → IsReady p → IsReady q
 ready_loaded p q at e hand r = record {
   values = λ k has. value_stays p q k (hand k) (ap (λ v. v.who.limits) e) (ap (hold_of k) e ∙ hold_loaded k (view p) at) (to_view k (view p) (place_loaded (view p) at) (view q) e (beside_loaded k (view p) at)) (r.values k (sym (ap (holds k) e ∙ held_seen k (view p) at) ∙ has));
   shut = λ o has. whole_head o (place_loaded (view p) at) (view q) e (r.shut o (sym (ap (holds (locks.Row o)) e ∙ held_seen (locks.Row o) (view p) at) ∙ has));
+  rows = rows_stay (view p) (view q) (λ o has. (sym (ap (holds (locks.Row o)) e ∙ held_seen (locks.Row o) (view p) at) ∙ has, ap (λ v. copied_heads v o) e)) r.rows;
 }
 
 -- a pass that held none and took one holds that alone
@@ -150,6 +171,7 @@ ready_waited p q l none t value shut = record {
       (λ (same : locks.Row o ≡ l). shut_of l o same shut)
       (λ (ne : locks.Row o ≢ l). absurd (true≢false (sym has ∙ waited_alone (view p) (view q) l (locks.Row o) none t ne)))
       (lock_cases (locks.Row o) l);
+  rows = subst RowsAreNamed (sym t.last.after) t.last.took.named;
 }
   where
     shut_of : (k : lock.Lock) (o : ℕ) → locks.Row o ≡ k → IsShut k (view q) → IsWhole (copied_heads (view q) o)

@@ -27,6 +27,7 @@ outside p o = record {
   ready = record {
     values = λ l has. absurd (true≢false (sym has ∙ o.free l));
     shut = λ n has. absurd (true≢false (sym has ∙ o.free (locks.Row n)));
+    rows = λ r has named. absurd (true≢false (sym has ∙ o.free (locks.Row r)));
   };
   plain = subst NamesNoTypes (sym o.none) tt;
 }

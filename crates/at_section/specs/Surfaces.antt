@@ -8,6 +8,7 @@ use Rattle.at_core.specs.declared.note.Note.{Note}
 use Rattle.at_core.specs.declared.world.Pass.{Pass}
 use Rattle.at_core.specs.Locks.{holds, HoldsNone}
 use Rattle.at_core.specs.Passes.{notes, view}
+use Rattle.at_core.specs.Plays.{RowsAreNamed}
 use Rattle.at_core.specs.Steps.{IsShut}
 use Rattle.at_lock.specs.Holding.{HasValue, HasOut}
 use Rattle.at_section.specs.Deeds.{Every, held, names, word_of}
@@ -31,10 +32,12 @@ pub record AreHeld (v : View) (ns : List Note) : Type 0 where
   pub exact : (l : lock.Lock) → holds l v ≡ named l ns
   pub top : IsTop ns
 
--- What giving back asks of each lock that is held: its slot has a value that is right, and the head of a row is whole.
+-- What giving back asks of each lock that is held: its slot has a value that is right, and the head of a row is whole. Where one
+-- object names the dictionary of another, of rows that are held, that has the layout of a dictionary too.
 pub record IsReady (p : Pass) : Type 0 where
   pub values : (l : lock.Lock) → holds l (view p) ≡ true → HasValue p l
   pub shut : IsShut locks.Types (view p)
+  pub rows : RowsAreNamed (view p)
 
 abbrev pub NamesNoTypes : List Note → Type 0
 NamesNoTypes ns = Every (λ n. n.types ≡ false) ns
@@ -55,6 +58,7 @@ pub record TypesSurface (p : Pass) : Type 0 where
   pub held : AreHeld (view p) (notes p)
   pub values : (l : lock.Lock) → l ≢ locks.Types → holds l (view p) ≡ true → HasValue p l
   pub shut : IsShut locks.Types (view p)
+  pub rows : RowsAreNamed (view p)
   pub out : HasOut p locks.Types
   pub around : List Note
   pub innermost : Note

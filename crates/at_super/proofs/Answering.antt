@@ -12,7 +12,8 @@ use Rattle.at_core.specs.declared.world.Pass.{Pass}
 use Rattle.at_core.specs.Passes.{view}
 use Rattle.at_core.specs.Writes.{read_by}
 use Rattle.at_call.specs.Done.{IsReadNow}
-use Rattle.at_call.specs.UnderWay.{seen_world, IsUnwritten, Rests}
+use Rattle.at_call.specs.Loads.{Still, Rests}
+use Rattle.at_call.specs.UnderWay.{seen_world, IsUnwritten}
 use Rattle.at_call.proofs.Keeping.{world_rests}
 
 -- the operation writes no row, and tells no dictionary
@@ -36,4 +37,4 @@ pub read_now : (operation : op.Op) (reply : reply.Reply) (q r : Pass) → IsTrue
 read_now operation reply q r reads rows tells rests replied = read_at operation reply r reads rows tells (replied ∙ ap (λ (w : World). (step w operation).reply) (sym (world_rests q r rests)))
 
 pub unwritten_rests : (p q r : Pass) → IsUnwritten p q → Rests q r → IsUnwritten p r
-unwritten_rests p q r own rests = ap (λ h. h.own) rests.idle.history ∙ own
+unwritten_rests p q r own rests = ap (λ (x : Still). x.own) rests.loads.only.still ∙ own

@@ -6,7 +6,8 @@ ghost use Rattle.at_model.specs.World.{order_of};
 ghost use Rattle.at_core.specs.declared.world.Pass as passes;
 ghost use Rattle.at_core.specs.Passes.{IsOf};
 ghost use Rattle.at_section.specs.Surfaces.{TypesSurface};
-ghost use Rattle.at_call.specs.UnderWay.{HasInHand, seen_world, Rests};
+ghost use Rattle.at_call.specs.Loads.{Rests};
+ghost use Rattle.at_call.specs.UnderWay.{HasInHand, seen_world};
 
 use at_call::{class_of_object, three_of};
 use at_core::{Pass, World};

@@ -12,7 +12,7 @@ use Rattle.at_section.specs.Sections.{in_order}
 use Rattle.at_section.specs.Surfaces.{AreHeld}
 use Rattle.at_section.proofs.Begun.{begins_after, kept_now, seen_place, types_note}
 use Rattle.at_section.proofs.Ending.{same_types}
-use Rattle.at_section.proofs.Holdings.{shut_same, value_same}
+use Rattle.at_section.proofs.Holdings.{rows_same, shut_same, value_same}
 use Rattle.at_section.proofs.Settling.{all_has}
 use Rattle.at_section.proofs.section.begin_types.Goals as goal
 
@@ -47,6 +47,7 @@ returns-clause-surface g c =
       held = subst (λ v. AreHeld v (notes t)) (sym e) (subst (AreHeld (view q)) (sym noted) c.begin_noted.ensures.held.0);
       values = λ l ne has. value_same q t l e (c.types_out.ensures.elsewhere l ne) (c.begin_noted.ensures.held.1.values l (sym (ap (holds l) e) ∙ has));
       shut = shut_same q t e c.begin_noted.ensures.held.1.shut;
+      rows = rows_same q t e c.begin_noted.ensures.held.1.rows;
       out = c.types_out.ensures.out;
       around = b.around;
       innermost = b.note;

@@ -7,7 +7,7 @@ use Rattle.at_lock.specs.Holding.{HasValue}
 use Rattle.at_section.specs.Surfaces.{AreHeld, NamesNoTypes}
 use Rattle.at_section.proofs.Begun.{finishes_before}
 use Rattle.at_section.proofs.Ending.{never_kept, same_types}
-use Rattle.at_section.proofs.Holdings.{shut_same, value_same}
+use Rattle.at_section.proofs.Holdings.{rows_same, shut_same, value_same}
 use Rattle.at_section.proofs.Settling.{last_one}
 use Rattle.at_section.proofs.section.end_types.Goals as goal
 
@@ -25,6 +25,7 @@ end_noted-requires-clause-held g c =
             (λ (ne : l ≢ locks.Types). value_same p q l e (c.types_in.ensures.elsewhere l ne) (s.values l ne (sym (ap (holds l) e) ∙ has)))
             (lock_cases l locks.Types);
         shut = shut_same p q e s.shut;
+        rows = rows_same p q e s.rows;
       },
     )
 

@@ -2,7 +2,7 @@ use Rattle.std.proofs.Common.{None, true, refl}
 use Rattle.at_value.specs.declared.operation.Op.TheVariants as ops
 use Rattle.at_model.proofs.OrderLaws.{no_base}
 use Rattle.at_section.specs.Sections.{in_order}
-use Rattle.at_call.proofs.UnderWays.{under_rests}
+use Rattle.at_call.proofs.UnderWays.{under_loads}
 use Rattle.at_super.proofs.Answering.{read_now, unwritten_rests}
 use Rattle.at_super.proofs.reading.class_get.Goals as goal
 
@@ -13,6 +13,6 @@ returns-clause-done g c =
     let r = c.class_get_reply-reply.new.pass in
     let operation = ops.TypeGet c.args.c c.args.n in
     c.answer.ensures.done (in_order true None None) p operation
-    (under_rests (in_order true None None) p q r c.begin_call-types.ensures.under c.begin_call-types.ensures.surface c.class_get_reply-reply.ensures.rests)
+    (under_loads (in_order true None None) p q r c.begin_call-types.ensures.under c.begin_call-types.ensures.surface c.class_get_reply-reply.ensures.rests.loads)
     (unwritten_rests p q r c.begin_call-types.ensures.unwritten c.class_get_reply-reply.ensures.rests)
     (read_now operation c.class_get_reply-reply.result q r refl (λ w o at. no_base o at) (λ w o at. no_base o at) c.class_get_reply-reply.ensures.rests c.class_get_reply-reply.ensures.reply)
