@@ -26,9 +26,11 @@ use Rattle.at_core.specs.PlacePlays.{AreEarlier, Saw}
 use Rattle.at_core.specs.PlaceSteps.{place_loaded}
 use Rattle.at_core.specs.Steps.{mark}
 use Rattle.at_core.proofs.Prefixes.{prefix_self}
-use Rattle.at_get.specs.InlineReads.{IsInlineRead, IsMissed, OnlyLoads, Tells, Yields}
+use Rattle.at_call.specs.Loads.{still, OnlyLoads}
+use Rattle.at_call.proofs.From.{only_then}
+use Rattle.at_get.specs.InlineReads.{IsInlineRead, IsMissed, Tells, Yields}
 use Rattle.at_get.proofs.Grown.{made_stays}
-use Rattle.at_get.proofs.Loaded.{at_seam, one_loaded, then_loaded}
+use Rattle.at_get.proofs.Loaded.{at_seam, one_loaded}
 
 abbrev head_mark : ℕ → ℕ → Mark
 head_mark o word = mark kinds.HeadLoad (words.head o) (Some word) (Some word)
@@ -39,7 +41,7 @@ has_head o word marks = (0, head_mark o word, refl, record { is = refl; at = ref
 
 module _ (opened : World) (o : ℕ) (v a : View) (word : ℕ) (at : List op.Op) (keys_are : ℕ → ℕ → ℕ) (is : a ≡ head_loaded v o at word) (saw : SawHead opened v o word at keys_are) where
   abbrev head_only : OnlyLoads v a
-  head_only = one_loaded v a (head_mark o word) (ap (λ (u : View). u.who) is) (ap (λ (u : View). u.history.own) is) (ap (λ (u : View). u.types) is, ap (λ (u : View). u.holds) is, ap (λ (u : View). u.rows) is) (subst (λ (u : View). IsPrefix v.history.seen u.history.seen) (sym is) (prefix_self v.history.seen)) (ap (λ (u : View). u.trace) is) refl
+  head_only = one_loaded v a (head_mark o word) (ap still is) (subst (λ (u : View). IsPrefix v.history.seen u.history.seen) (sym is) (prefix_self v.history.seen)) (ap (λ (u : View). u.trace) is) refl
 
   pub odd_missed : IsOpened word → IsMissed v a o (misses.Odd o word)
   odd_missed odd = record { only = head_only; cause = (refl, odd, has_head o word []) }
@@ -65,13 +67,13 @@ module _ (opened : World) (o : ℕ) (v a : View) (word : ℕ) (at : List op.Op) 
     seen_last = ap (λ (u : View). u.history.seen) last ∙ seen_at
 
     abbrev place_only : OnlyLoads b p
-    place_only = one_loaded b p place_mark (ap (λ (u : View). u.who) placed) (ap (λ (u : View). u.history.own) placed) (ap (λ (u : View). u.types) placed, ap (λ (u : View). u.holds) placed, ap (λ (u : View). u.rows) placed) (subst (IsPrefix b.history.seen) (sym seen_at) saw_place.later) (ap (λ (u : View). u.trace) placed) refl
+    place_only = one_loaded b p place_mark (ap still placed) (subst (IsPrefix b.history.seen) (sym seen_at) saw_place.later) (ap (λ (u : View). u.trace) placed) refl
 
     abbrev last_only : OnlyLoads p d
-    last_only = one_loaded p d (head_mark o again) (ap (λ (u : View). u.who) last) (ap (λ (u : View). u.history.own) last) (ap (λ (u : View). u.types) last, ap (λ (u : View). u.holds) last, ap (λ (u : View). u.rows) last) (subst (λ (u : View). IsPrefix p.history.seen u.history.seen) (sym last) (prefix_self p.history.seen)) (ap (λ (u : View). u.trace) last) refl
+    last_only = one_loaded p d (head_mark o again) (ap still last) (subst (λ (u : View). IsPrefix p.history.seen u.history.seen) (sym last) (prefix_self p.history.seen)) (ap (λ (u : View). u.trace) last) refl
 
     abbrev all_only : OnlyLoads v d
-    all_only = then_loaded v a d head_only (then_loaded a b d y.only (then_loaded b p d place_only last_only))
+    all_only = only_then v a d head_only (only_then a b d y.only (only_then b p d place_only last_only))
 
     pub moved_missed : (k : ℕ) → k ≡ words.number_of (words.head o) → word ≢ again → IsMissed v d o (misses.Moved k word again)
     moved_missed k number other = record {

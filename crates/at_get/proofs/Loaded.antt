@@ -15,7 +15,8 @@ use Rattle.at_core.specs.HeadSteps.{key_loaded, with_key}
 use Rattle.at_core.specs.Looks.{KeyStays}
 use Rattle.at_core.proofs.Prefixes.{prefix_self, prefix_trans}
 use Rattle.at_keys.specs.Scans.{keys_loaded, words_loaded, IsOther}
-use Rattle.at_get.specs.InlineReads.{OnlyLoads}
+use Rattle.at_call.specs.Loads.{still, OnlyLoads}
+use Rattle.at_call.proofs.From.{only_then}
 
 -- Lists
 
@@ -35,33 +36,16 @@ All-from_map P f xs all = λ k d less. subst P (get_or-map f xs k d (f d) less) 
 -- Loads
 
 pub none_loaded : (v : View) → OnlyLoads v v
-none_loaded v = record { who = refl; own = refl; types = refl; holds = refl; rows = refl; later = prefix_self v.history.seen; marks = []; trace = sym (append-nil v.trace); loads = All-nil (λ m. IsTrue (is_fast_load m.kind)) }
+none_loaded v = record { still = refl; later = prefix_self v.history.seen; marks = []; trace = sym (append-nil v.trace); loads = All-nil (λ m. IsTrue (is_fast_load m.kind)) }
 
 -- one load
-abbrev pub one_loaded : (v w : View) (m : Mark) → w.who ≡ v.who → w.history.own ≡ v.history.own → (w.types ≡ v.types) × (w.holds ≡ v.holds) × (w.rows ≡ v.rows) → IsPrefix v.history.seen w.history.seen → w.trace ≡ v.trace ++ m ∷ [] → IsTrue (is_fast_load m.kind) → OnlyLoads v w
-one_loaded v w m who own locks later trace load = record {
-  who = who;
-  own = own;
-  types = locks.0;
-  holds = locks.1;
-  rows = locks.2;
+abbrev pub one_loaded : (v w : View) (m : Mark) → still w ≡ still v → IsPrefix v.history.seen w.history.seen → w.trace ≡ v.trace ++ m ∷ [] → IsTrue (is_fast_load m.kind) → OnlyLoads v w
+one_loaded v w m same later trace load = record {
+  still = same;
   later = later;
   marks = m ∷ [];
   trace = trace;
   loads = All-cons (λ n. IsTrue (is_fast_load n.kind)) m [] load (All-nil (λ n. IsTrue (is_fast_load n.kind)));
-}
-
-abbrev pub then_loaded : (u v w : View) → OnlyLoads u v → OnlyLoads v w → OnlyLoads u w
-then_loaded u v w a b = record {
-  who = b.who ∙ a.who;
-  own = b.own ∙ a.own;
-  types = b.types ∙ a.types;
-  holds = b.holds ∙ a.holds;
-  rows = b.rows ∙ a.rows;
-  later = prefix_trans u.history.seen v.history.seen w.history.seen a.later b.later;
-  marks = a.marks ++ b.marks;
-  trace = b.trace ∙ (ap (λ ms. ms ++ b.marks) a.trace ∙ append_assoc u.trace a.marks b.marks);
-  loads = All-append (λ m. IsTrue (is_fast_load m.kind)) a.marks b.marks a.loads b.loads;
 }
 
 -- Keys
@@ -86,7 +70,7 @@ pub only_keys : (c i : ℕ) (loads : List (List ℕ)) (v : View) → OnlyLoads v
 only_keys c i [] v = none_loaded v
 only_keys c i (known ∷ more) v =
     let w = key_loaded v c i known (slice_index known i) in
-    then_loaded v w (keys_loaded c w (suc i) more) (one_loaded v w _ refl refl (refl, refl, refl) (prefix_self v.history.seen) refl refl) (only_keys c (suc i) more w)
+    only_then v w (keys_loaded c w (suc i) more) (one_loaded v w _ refl (prefix_self v.history.seen) refl refl) (only_keys c (suc i) more w)
 
 pub history_loaded : (c i : ℕ) (loads : List (List ℕ)) (v : View) → (keys_loaded c v i loads).history ≡ v.history
 history_loaded c i [] v = refl

@@ -21,7 +21,8 @@ use Rattle.at_core.proofs.Prefixes.{prefix_self}
 use Rattle.at_keys.specs.declared.scanning.KeyAt.TheVariants as found
 use Rattle.at_keys.specs.Scans.{keys_loaded, words_loaded, IsOther, Scans}
 use Rattle.at_get.specs.InlineReads.{Tells, Yields}
-use Rattle.at_get.proofs.Loaded.{at_seam, All-from_map, one_loaded, then_loaded, with_keys, looks_loaded, only_keys, history_loaded, key_in, others_stay}
+use Rattle.at_call.proofs.From.{only_then}
+use Rattle.at_get.proofs.Loaded.{at_seam, All-from_map, one_loaded, with_keys, looks_loaded, only_keys, history_loaded, key_in, others_stay}
 
 word_positive : (v : value.Value) → 0 < word_of v
 word_positive values.Nothing = omega arith
@@ -96,7 +97,7 @@ module _ (o c n : ℕ) (v w : View) where
       let stay : All Stay (map (with_keys c loads) v.looks) = subst (All Stay) (ap (λ (u : View). u.looks) scan.after ∙ looks_loaded c loads v) saw.used in
       let each : HeadLook → HeadLook = λ look. with_cell o i keys_are word (with_keys c loads look) in
       subst (λ (u : View). Yields o c n read v u) (sym after) (record {
-        only = then_loaded v scanned (inline_loaded scanned o i keys_are word) (only_keys c 0 loads v) (one_loaded scanned (inline_loaded scanned o i keys_are word) _ refl refl (refl, refl, refl) (prefix_self scanned.history.seen) refl refl);
+        only = only_then v scanned (inline_loaded scanned o i keys_are word) (only_keys c 0 loads v) (one_loaded scanned (inline_loaded scanned o i keys_are word) _ refl (prefix_self scanned.history.seen) refl refl);
         history = history_loaded c 0 loads v;
         each = each;
         looks = ap (map (with_cell o i keys_are word)) (looks_loaded c loads v) ∙ map-map (with_cell o i keys_are word) (with_keys c loads) v.looks;

@@ -15,24 +15,13 @@ use Rattle.at_view.specs.declared.view.HeadLook.{HeadLook}
 use Rattle.at_view.specs.declared.view.View.{View}
 use Rattle.at_view.specs.Words.{number_of, head, place}
 use Rattle.at_core.specs.Backed.{Has, HasThen, Loads, is_fast_load}
-use Rattle.at_core.specs.Heads.{HasDictionary, IsInline, IsOpened, class_of, shape_of}
+use Rattle.at_core.specs.Heads.{HasDictionary, IsHead, IsInline, IsOpened, class_of, shape_of}
+use Rattle.at_core.specs.Steps.{copied_heads}
 use Rattle.at_core.specs.HeadPlays.{Says}
 use Rattle.at_core.specs.Inline.{AreKeys}
 use Rattle.at_core.specs.Looks.{born_with}
+use Rattle.at_call.specs.Loads.{OnlyLoads}
 use Rattle.at_get.specs.declared.inline.InlineValue.{InlineValue}
-
--- The pass only loaded: who it is, its own writes, its locks and the copies that it has by them are as they were, it has seen no less,
--- and its trace has more loads.
-pub record OnlyLoads (v w : View) : Type 0 where
-  pub who : w.who ≡ v.who
-  pub own : w.history.own ≡ v.history.own
-  pub types : w.types ≡ v.types
-  pub holds : w.holds ≡ v.holds
-  pub rows : w.rows ≡ v.rows
-  pub later : IsPrefix v.history.seen w.history.seen
-  pub marks : List Mark
-  pub trace : w.trace ≡ v.trace ++ marks
-  pub loads : All (λ m. IsTrue (is_fast_load m.kind)) marks
 
 -- Whatever a later load of the head says of a look, with what was loaded since, it says that the dictionary which was born with the
 -- object has this under the name.
@@ -75,3 +64,12 @@ IsMissOf o marks (misses.Moved word first second) = (word ≡ number_of (head o)
 pub record IsMissed (v w : View) (o : ℕ) (why : miss.Miss) : Type 0 where
   pub only : OnlyLoads v w
   pub cause : IsMissOf o only.marks why
+
+-- A read that missed though the row of the object is held: its values are in a dictionary, and its head says which one.
+pub record IsDictHeld (opened : World) (v w : View) (o : ℕ) (why : miss.Miss) : Type 0 where
+  pub word : ℕ
+  pub is : why ≡ misses.Dict o word
+  pub head : IsHead word
+  pub copy : word ≡ copied_heads v o
+  pub dictionary : HasDictionary (shape_of word)
+  pub object : slice_get (replay opened w.history.seen).objects o ≡ Some (record { class = class_of word; dict = (shape_of word).row })

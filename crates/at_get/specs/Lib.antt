@@ -1,1 +1,2 @@
 pub mod InlineReads
+pub mod OwnValues
