@@ -16,7 +16,12 @@ use Rattle.at_core.specs.Inline.{IsObjectOf}
 use Rattle.at_core.specs.Locks.{holds, AreKept}
 use Rattle.at_core.specs.Opened.{opening_of}
 use Rattle.at_core.specs.Steps.{IsShut}
-use Rattle.std.specs.Prelude.{IsTrue}
+use Rattle.std.specs.Prelude.{nat_lt, is_some, IsTrue}
+use Rattle.std.proofs.Common.{cond, not, ◌&&◌}
+use Rattle.std.proofs.lemmas.Bool.Decides.{nat_tests}
+use Rattle.at_value.specs.declared.reply.Reply as reply
+use Rattle.at_value.specs.declared.reply.Reply.TheVariants as replies
+use Rattle.at_model.specs.Attributes.{unchanged}
 use Rattle.std.proofs.lemmas.List.Elements.{All-cons, All-nil}
 use Rattle.at_view.specs.declared.mark.StepKind.TheVariants as kinds
 use Rattle.at_view.specs.Words.{head}
@@ -101,3 +106,21 @@ rests_looked p q o word at same hand after = record {
 
 pub surface_looked : (p q : Pass) (o word : ℕ) (at : List op.Op) → IsSame p q → HasSameHand p q → view q ≡ head_loaded (view p) o at word → TypesSurface p → TypesSurface q
 surface_looked p q o word at same hand after = surface_loads p q (rests_looked p q o word at same hand after).loads
+
+-- Operations on objects
+
+pub some_there : (objects : List Object) (o : ℕ) → nat_lt o (length objects) ≡ is_some (slice_get objects o)
+some_there objects o = by_test (nat_lt o (length objects)) refl
+  where
+    by_test : (b : Bool) → nat_lt o (length objects) ≡ b → b ≡ is_some (slice_get objects o)
+    by_test true is = let (found, at) = some_within objects o (grind (arith, nat_tests, is)) in sym (ap is_some at)
+    by_test false is = sym (ap is_some (none_past objects o (grind (arith, nat_tests, is))))
+
+-- an operation on an object replies by the object that is found, where without one it replies NoAttr
+pub object_step : (w : World) (o : ℕ) (f : Option Object → reply.Reply) → f None ≡ replies.NoAttr
+    → (cond (not (nat_lt o (length w.objects) && true)) (unchanged w replies.NoAttr) (unchanged w (f (slice_get w.objects o)))).reply ≡ f (slice_get w.objects o)
+object_step w o f none = by_test (nat_lt o (length w.objects)) refl
+  where
+    by_test : (b : Bool) → nat_lt o (length w.objects) ≡ b → (cond (not (b && true)) (unchanged w replies.NoAttr) (unchanged w (f (slice_get w.objects o)))).reply ≡ f (slice_get w.objects o)
+    by_test true is = refl
+    by_test false is = sym (ap f (none_past w.objects o (grind (arith, nat_tests, is))) ∙ none)

@@ -1,5 +1,5 @@
 -- A pass that goes on from where it was.
-use Rattle.std.proofs.Common.{List, ◌++◌, sym, ap, ◌∙◌, subst, append_assoc}
+use Rattle.std.proofs.Common.{List, ◌++◌, sym, ap, ◌∙◌, subst, append_assoc, append-nil}
 use mathlib.Core.List.{IsPrefix}
 use Rattle.at_core.specs.declared.lock.Lock as lock
 use Rattle.at_core.specs.declared.world.Pass.{Pass}
@@ -30,6 +30,9 @@ from_then p q r a b = record {
   marks = a.marks ++ b.marks;
   trace = b.trace ∙ (ap (λ t. t ++ b.marks) a.trace ∙ append_assoc (view p).trace a.marks b.marks);
 }
+
+abbrev pub from_self : (p : Pass) → IsFrom p p
+from_self p = record { same = record { table = refl; seat = refl; number = refl }; who = refl; birth = refl; later = prefix_self (view p).history.seen; joined = refl; tags = refl; read = refl; write = refl; kept = refl; marks = []; trace = sym (append-nil (view p).trace) }
 
 -- a pass that began or ended a section
 abbrev pub from_left : (ls : List lock.Lock) (p q : Pass) → IsSamePass p q → IsLeft (view p) (view q) → Adds ls (view p) (view q) → IsFrom p q

@@ -23,7 +23,7 @@ use Rattle.at_core.specs.Passes.{view}
 use Rattle.at_core.proofs.Prefixes.{prefix_length}
 use Rattle.at_call.specs.Done.{IsAnswered}
 use Rattle.at_call.specs.UnderWay.{IsFrom, IsUnwritten}
-use Rattle.at_call.proofs.Marks.{has_more}
+use Rattle.at_call.proofs.Marks.{has_before, has_more}
 
 -- Histories
 
@@ -100,6 +100,19 @@ write_call opened before now operation answer at birth from seen own next replie
       read = λ undone. absurd (true≢false (sym writes ∙ (sym (ap is_done replied) ∙ undone)));
     }
 
+-- a call that began where an earlier one had left the history, its own writes too
+pub call_before : (opened : World) (first before now : HistoryView) (operation : op.Op) (answer : Answer) → before.birth ≡ first.birth → IsPrefix first.seen before.seen → before.own ≡ first.own
+    → IsCall opened before operation answer now → IsCall opened first operation answer now
+call_before opened first before now operation answer birth from own c =
+    let short = prefix_length first.seen before.seen from in
+    let late = c.late in
+    record {
+      later = record { birth = c.later.birth ∙ birth; more = (from.0 ++ c.later.more.0, c.later.more.1 ∙ (ap (λ h. h ++ c.later.more.0) (sym from.1) ∙ append_assoc first.seen from.0 c.later.more.0)) };
+      late = omega (arith, short, late);
+      write = λ done. let w = c.write done in let past = w.past in record { past = omega (arith, short, past); stands = w.stands; replied = w.replied; own = w.own ∙ ap (λ xs. xs ++ answer.place.0 ∷ []) own };
+      read = λ undone. let r = c.read undone in record { seen = r.seen; is_so = r.is_so; own = r.own ∙ own };
+    }
+
 -- Steps behind lines
 
 stands_more : (b : Bool) (p : ℕ) (marks more : List Mark) → StandsAt b p marks → StandsAt b p (marks ++ more)
@@ -118,4 +131,20 @@ answered_later operation p q r answer from own a = record {
   marks = a.marks ++ from.marks;
   trace = from.trace ∙ (ap (λ t. t ++ from.marks) a.trace ∙ append_assoc (view p).trace a.marks from.marks);
   backs = (stands_more (is_done answer.reply) answer.place.0 a.marks from.marks a.backs.0, goes_more answer.path operation a.marks from.marks a.locked a.backs.1);
+}
+
+stands_before : (b : Bool) (p : ℕ) (marks more : List Mark) → StandsAt b p more → StandsAt b p (marks ++ more)
+stands_before true p marks more has = has_before marks more has
+stands_before false p marks more has = has_before marks more has
+
+goes_before : (way : path.Path) (operation : op.Op) (marks more : List Mark) → way ≡ paths.Locked → Goes way operation more → Goes way operation (marks ++ more)
+goes_before way operation marks more locked = subst (λ (w : path.Path). Goes w operation more → Goes w operation (marks ++ more)) (sym locked) (λ has. has_before marks more has)
+
+pub answered_before : (operation : op.Op) (p q r : Pass) (answer : Answer) → IsFrom p q → IsUnwritten p q → IsAnswered operation q r answer → IsAnswered operation p r answer
+answered_before operation p q r answer from own a = record {
+  call = call_before (opening_of (view p).who.limits) (view p).history (view q).history (view r).history operation answer from.birth from.later own a.call;
+  locked = a.locked;
+  marks = from.marks ++ a.marks;
+  trace = a.trace ∙ (ap (λ t. t ++ a.marks) from.trace ∙ append_assoc (view p).trace from.marks a.marks);
+  backs = (stands_before (is_done answer.reply) answer.place.0 from.marks a.marks a.backs.0, goes_before answer.path operation from.marks a.marks a.locked a.backs.1);
 }

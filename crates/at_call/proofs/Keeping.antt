@@ -111,14 +111,15 @@ kept_at opened (locks.Row o) v w hold history k = record {
   excludes = subst (λ (h : Hold). AvoidsRow opened h.entered w.history.own w.history.seen o) (sym hold) (subst (λ (x : HistoryView). AvoidsRow opened (hold_of (locks.Row o) v).entered x.own x.seen o) (sym history) k.excludes);
 }
 
-same_history : (p q : Pass) → Rests p q → (view q).history ≡ (view p).history
-same_history p q r = λ i. record { birth = (ap (λ (x : Still). x.birth) r.loads.only.still) i; seen = r.seen i; own = (ap (λ (x : Still). x.own) r.loads.only.still) i }
+pub kept_only : (v w : View) → OnlyLoads v w → w.history.seen ≡ v.history.seen → AreKept (opening_of v.who.limits) v → AreKept (opening_of w.who.limits) w
+kept_only v w only seen kept l has =
+    let h = held_loads v w only in
+    let same : w.history ≡ v.history = λ i. record { birth = (ap (λ (x : Still). x.birth) only.still) i; seen = seen i; own = (ap (λ (x : Still). x.own) only.still) i } in
+    subst (λ (x : Limits). IsKeptAt (opening_of x) l w w.history.seen) (sym h.limits)
+    (kept_at (opening_of v.who.limits) l v w (h.hold l) same (kept l (sym (has_held v w l h) ∙ has)))
 
 pub kept_rests : (p q : Pass) → Rests p q → AreKept (opening_of (view p).who.limits) (view p) → AreKept (opening_of (view q).who.limits) (view q)
-kept_rests p q r kept l has =
-    let h = held_loads (view p) (view q) r.loads.only in
-    subst (λ (x : Limits). IsKeptAt (opening_of x) l (view q) (view q).history.seen) (sym h.limits)
-    (kept_at (opening_of (view p).who.limits) l (view p) (view q) (h.hold l) (same_history p q r) (kept l (sym (has_held (view p) (view q) l h) ∙ has)))
+kept_rests p q r = kept_only (view p) (view q) r.loads.only r.seen
 
 pub kept_place : (v : View) (at : List op.Op) → Saw (opening_of v.who.limits) v at → AreKept (opening_of v.who.limits) (place_loaded v at)
 kept_place v at saw = kept_loaded (opening_of v.who.limits) v at saw.kept

@@ -16,6 +16,10 @@ has_more [] more (i, m, at, p) = absurd (cc (at))
 has_more (n ∷ marks) more (zero, m, at, p) = (zero, m, at, p)
 has_more {P} (n ∷ marks) more (suc i, m, at, p) = let (j, k, there, q) = has_more {P = P} marks more (i, m, at, p) in (suc j, k, there, q)
 
+pub has_before : {P : Mark → Type 0} → (before marks : List Mark) → Has P marks → Has P (before ++ marks)
+has_before [] marks has = has
+has_before {P} (m ∷ before) marks has = let (i, n, at, p) = has_before {P = P} before marks has in (suc i, n, at, p)
+
 pub has_last : {P : Mark → Type 0} → (marks : List Mark) (m : Mark) → P m → Has P (marks ++ m ∷ [])
 has_last [] m p = (0, m, refl, p)
 has_last {P} (n ∷ marks) m p = let (j, k, there, q) = has_last {P = P} marks m p in (suc j, k, there, q)

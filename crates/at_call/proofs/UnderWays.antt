@@ -1,6 +1,6 @@
 -- Calls that begin, go on, and end.
 use Rattle.std.proofs.Common.{◌≡◌, ℕ, ◌==◌, Bool, true, false, ◌||◌, ◌&&◌, List, [], ◌∷◌, ◌++◌, Option, Some, None, length, refl, sym, ap, ◌∙◌, subst}
-use Rattle.std.proofs.lemmas.List.{map-append}
+use Rattle.std.proofs.lemmas.List.{length-map, map-append}
 use Rattle.at_value.specs.declared.operation.Op as op
 use Rattle.at_value.specs.declared.reply.Answer.{Answer}
 use Rattle.at_core.specs.declared.lock.Lock as lock
@@ -25,11 +25,11 @@ use Rattle.at_section.specs.Surfaces.{named, AreSettled, NamesNoTypes, Surface, 
 use Rattle.at_section.proofs.Quiet.{quiet_steps_stay}
 use Rattle.at_section.proofs.Settling.{all_has, last_one}
 use Rattle.at_section.proofs.Standing.{word_apart}
-use Rattle.at_call.specs.Done.{IsAnswered, IsDone, Leaves}
+use Rattle.at_call.specs.Done.{IsAnswered, IsDone, Leaves, LeavesUnwritten}
 use Rattle.at_call.specs.Loads.{Loads}
 use Rattle.at_call.specs.UnderWay.{IsFrom, IsUnderWay, Rests}
-use Rattle.at_call.proofs.From.{from_left, from_loads, from_then}
-use Rattle.at_call.proofs.Growing.{answered_later}
+use Rattle.at_call.proofs.From.{from_left, from_loads, from_self, from_then}
+use Rattle.at_call.proofs.Growing.{answered_before, answered_later}
 use Rattle.at_call.proofs.Keeping.{on_loads, on_placed}
 use Rattle.at_call.proofs.Marks.{has_more, types_taken}
 
@@ -104,6 +104,25 @@ done_ended ls p q r e operation answer u f a = record {
   answered = answered_later operation p q r answer (from_ended q r e f) f.left.own a;
   leaves = leaves_ended ls p q r e u f;
 }
+
+-- One call after another
+
+pub leaves_self : (p : Pass) → Leaves p p
+leaves_self p = record { from = from_self p; named = refl; stay = λ starts sections. sections }
+
+pub leaves_then : (p q r : Pass) → Leaves p q → Leaves q r → Leaves p r
+leaves_then p q r a b = record { from = from_then p q r a.from b.from; named = b.named ∙ a.named; stay = λ starts sections. b.stay starts (a.stay starts sections) }
+
+-- an operation that is done after calls that wrote nothing
+pub done_after : (operation : op.Op) (p q r : Pass) (answer : Answer) → LeavesUnwritten p q → IsDone operation q r answer → IsDone operation p r answer
+done_after operation p q r answer leaves done = record {
+  answered = answered_before operation p q r answer leaves.0.from leaves.1 done.answered;
+  leaves = leaves_then p q r leaves.0 done.leaves;
+}
+
+-- it is in as many sections
+pub as_many : (p q : Pass) → Leaves p q → length (notes q) ≡ length (notes p)
+as_many p q leaves = sym (length-map (notes q) locks_of) ∙ (ap length leaves.named ∙ length-map (notes p) locks_of)
 
 -- A call that loaded the place
 

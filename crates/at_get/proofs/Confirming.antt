@@ -26,9 +26,15 @@ use Rattle.at_core.specs.PlacePlays.{AreEarlier, Saw}
 use Rattle.at_core.specs.PlaceSteps.{place_loaded}
 use Rattle.at_core.specs.Steps.{mark}
 use Rattle.at_core.proofs.Prefixes.{prefix_self}
-use Rattle.at_call.specs.Loads.{still, OnlyLoads}
+use Rattle.at_core.specs.declared.lock.Lock.TheVariants as locks
+use Rattle.at_core.specs.Locks.{copy_at, hold_at, holds, AreKept}
+use Rattle.at_core.specs.Steps.{copied_heads}
+use Rattle.at_core.proofs.HeadFrames.{odd_even}
+use Rattle.at_call.specs.Loads.{Still, still, OnlyLoads}
+use Rattle.at_call.proofs.Keeping.{kept_only, kept_place}
+use Rattle.at_call.proofs.Reading.{unchanged_seen}
 use Rattle.at_call.proofs.From.{only_then}
-use Rattle.at_get.specs.InlineReads.{IsInlineRead, IsMissed, Tells, Yields}
+use Rattle.at_get.specs.InlineReads.{IsDictHeld, IsInlineRead, IsMissed, Tells, Yields}
 use Rattle.at_get.proofs.Grown.{made_stays}
 use Rattle.at_get.proofs.Loaded.{at_seam, one_loaded}
 
@@ -48,6 +54,27 @@ module _ (opened : World) (o : ℕ) (v a : View) (word : ℕ) (at : List op.Op) 
 
   pub dict_missed : HasDictionary (shape_of word) → IsMissed v a o (misses.Dict o word)
   dict_missed has = record { only = head_only; cause = (refl, has, has_head o word []) }
+
+  -- the locks have kept what they protect yet
+  pub head_kept : AreKept opened v → AreKept opened a
+  head_kept = kept_only v a head_only (ap (λ (u : View). u.history.seen) is)
+
+  module _ (kept : AreKept opened v) (held : holds (locks.Row o) v ≡ true) (shut : IsWhole (copied_heads v o)) where
+    -- the head of an object whose row is held is the copy, and whole
+    pub not_odd : ¬ IsOpened word
+    not_odd odd = odd_even word odd (subst IsWhole (sym (saw.copy held)) shut)
+
+    pub dict_held : HasDictionary (shape_of word) → IsDictHeld opened v a o (misses.Dict o word)
+    dict_held has = record {
+      word = word;
+      is = refl;
+      head = saw.is;
+      copy = saw.copy held;
+      dictionary = has;
+      object = ap (λ (u : View). slice_get (replay opened u.history.seen).objects o) is
+          ∙ (sym (unchanged_seen v at (locks.Row o) kept saw.saw held).0
+          ∙ (saw.object (subst IsWhole (sym (saw.copy held)) shut)).present (λ none. let two = has in omega (arith, none, two)));
+    }
 
   -- the head of an object that was made, where it is whole, isn't that of none
   pub is_made : (found : Object) → slice_get (replay opened v.history.seen).objects o ≡ Some found → IsWhole word → (shape_of word).layout ≢ unmade
@@ -74,6 +101,17 @@ module _ (opened : World) (o : ℕ) (v a : View) (word : ℕ) (at : List op.Op) 
 
     abbrev all_only : OnlyLoads v d
     all_only = only_then v a d head_only (only_then a b d y.only (only_then b p d place_only last_only))
+
+    -- the locks have kept what they protect yet
+    pub last_kept : AreKept opened d
+    last_kept = kept_only p d last_only (ap (λ (u : View). u.history.seen) last) (subst (AreKept opened) (sym placed) (kept_place b seen saw_place))
+
+    -- where the row is held both loads find the copy
+    pub not_moved : holds (locks.Row o) v ≡ true → ¬ (word ≢ again)
+    not_moved held other =
+        let same = only_then v a p head_only (only_then a b p y.only place_only) in
+        let held_then : holds (locks.Row o) p ≡ true = ap (λ (x : Still). (hold_at o x.holds).held) same.still ∙ held in
+        other (saw.copy held ∙ (sym (ap (λ (x : Still). (copy_at o x.rows).head) same.still) ∙ sym (saw_last.copy held_then)))
 
     pub moved_missed : (k : ℕ) → k ≡ words.number_of (words.head o) → word ≢ again → IsMissed v d o (misses.Moved k word again)
     moved_missed k number other = record {

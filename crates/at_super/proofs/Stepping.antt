@@ -10,23 +10,7 @@ use Rattle.at_model.specs.Attributes.{unchanged, three_of, special_on, super_alo
 use Rattle.at_model.specs.Step.{has_number, is_in_order, is_made, step}
 use Rattle.at_model.specs.World.{World, find_by, find_in, order_of}
 use Rattle.at_types.specs.Lookups.{found_after}
-use Rattle.at_call.proofs.Found.{class_at, none_past, some_within}
-
-some_there : (objects : List Object) (o : ℕ) → nat_lt o (length objects) ≡ is_some (slice_get objects o)
-some_there objects o = by_test (nat_lt o (length objects)) refl
-  where
-    by_test : (b : Bool) → nat_lt o (length objects) ≡ b → b ≡ is_some (slice_get objects o)
-    by_test true is = let (found, at) = some_within objects o (grind (arith, nat_tests, is)) in sym (ap is_some at)
-    by_test false is = sym (ap is_some (none_past objects o (grind (arith, nat_tests, is))))
-
--- an operation on an object replies by the object that is found, where without one it replies NoAttr
-object_step : (w : World) (o : ℕ) (f : Option Object → reply.Reply) → f None ≡ replies.NoAttr
-    → (cond (not (nat_lt o (length w.objects) && true)) (unchanged w replies.NoAttr) (unchanged w (f (slice_get w.objects o)))).reply ≡ f (slice_get w.objects o)
-object_step w o f none = by_test (nat_lt o (length w.objects)) refl
-  where
-    by_test : (b : Bool) → nat_lt o (length w.objects) ≡ b → (cond (not (b && true)) (unchanged w replies.NoAttr) (unchanged w (f (slice_get w.objects o)))).reply ≡ f (slice_get w.objects o)
-    by_test true is = refl
-    by_test false is = sym (ap f (none_past w.objects o (grind (arith, nat_tests, is))) ∙ none)
+use Rattle.at_call.proofs.Found.{class_at, object_step, some_there}
 
 pub special_step : (w : World) (o n : ℕ) → (step w (ops.Special o n)).reply ≡ special_on w o n (slice_get w.objects o)
 special_step w o n = object_step w o (special_on w o n) refl
