@@ -14,7 +14,9 @@ use Rattle.at_view.specs.declared.mark.Mark.{Mark}
 use Rattle.at_call.specs.Loads.{Still, OnlyLoads, Loads, Rests}
 use Rattle.at_call.specs.UnderWay.{HasStep, IsFrom}
 use Rattle.at_view.specs.declared.view.View.{View}
-use Rattle.at_call.proofs.Marks.{has_more}
+use Rattle.at_section.specs.Deeds.{deed_of, finds_held}
+use Rattle.at_section.proofs.Scores.{every_more}
+use Rattle.at_call.proofs.Marks.{has_more, loads_quiet, quiet_held}
 
 abbrev pub from_then : (p q r : Pass) → IsFrom p q → IsFrom q r → IsFrom p r
 from_then p q r a b = record {
@@ -23,16 +25,16 @@ from_then p q r a b = record {
   birth = b.birth ∙ a.birth;
   later = prefix_trans (view p).history.seen (view q).history.seen (view r).history.seen a.later b.later;
   joined = b.joined ∙ a.joined;
-  tags = b.tags ∙ a.tags;
-  read = b.read ∙ a.read;
-  write = b.write ∙ a.write;
+  online = b.online ∙ a.online;
+  entry = b.entry ∙ a.entry;
   kept = b.kept ∙ a.kept;
   marks = a.marks ++ b.marks;
   trace = b.trace ∙ (ap (λ t. t ++ b.marks) a.trace ∙ append_assoc (view p).trace a.marks b.marks);
+  alone = λ is. every_more (λ m. finds_held (deed_of m.kind) m.found ≡ false) a.marks b.marks (a.alone is) (b.alone (record { first = a.birth ∙ is.first; childless = ap (λ w. w.children) a.who ∙ is.childless }));
 }
 
 abbrev pub from_self : (p : Pass) → IsFrom p p
-from_self p = record { same = record { table = refl; seat = refl; number = refl }; who = refl; birth = refl; later = prefix_self (view p).history.seen; joined = refl; tags = refl; read = refl; write = refl; kept = refl; marks = []; trace = sym (append-nil (view p).trace) }
+from_self p = record { same = record { table = refl; seat = refl; number = refl }; who = refl; birth = refl; later = prefix_self (view p).history.seen; joined = refl; online = refl; entry = refl; kept = refl; marks = []; trace = sym (append-nil (view p).trace); alone = λ is. tt }
 
 -- a pass that began or ended a section
 abbrev pub from_left : (ls : List lock.Lock) (p q : Pass) → IsSamePass p q → IsLeft (view p) (view q) → Adds ls (view p) (view q) → IsFrom p q
@@ -42,12 +44,12 @@ from_left ls p q same left adds = record {
   birth = left.birth;
   later = left.seen;
   joined = left.joined;
-  tags = left.tags;
-  read = left.read;
-  write = left.write;
+  online = ap (λ x. x.online) left.tags;
+  entry = ap (λ x. x.writing) left.write;
   kept = left.kept;
   marks = adds.marks;
   trace = adds.trace;
+  alone = adds.alone;
 }
 
 -- one that only loaded
@@ -58,12 +60,12 @@ from_loads p q r = record {
   birth = ap (λ (x : Still). x.birth) r.only.still;
   later = r.only.later;
   joined = ap (λ (x : Still). x.joined) r.only.still;
-  tags = ap (λ (x : Still). x.tags) r.only.still;
-  read = ap (λ (x : Still). x.read) r.only.still;
-  write = ap (λ (x : Still). x.write) r.only.still;
+  online = ap (λ (x : Still). x.tags.online) r.only.still;
+  entry = ap (λ (x : Still). x.write.writing) r.only.still;
   kept = ap (λ (x : Still). x.kept) r.only.still;
   marks = r.only.marks;
   trace = r.only.trace;
+  alone = λ is. quiet_held r.only.marks (loads_quiet r.only.marks r.only.loads);
 }
 
 -- loads, and then more of them

@@ -7,7 +7,7 @@ use Rattle.at_view.specs.declared.mark.StepKind as step_kind
 use Rattle.at_view.specs.declared.mark.StepKind.TheVariants as kinds
 use Rattle.at_core.specs.declared.lock.Lock.TheVariants as locks
 use Rattle.at_core.specs.Backed.{Has, TakesTypes, is_fast_load}
-use Rattle.at_section.specs.Deeds.{Deed, tries, gives, loads, other, deed_of, was_free, word_of, Held, turned, held_by, held_after}
+use Rattle.at_section.specs.Deeds.{Deed, tries, gives, loads, other, deed_of, was_free, word_of, Held, turned, held_by, held_after, finds_held, NoHeld}
 use Rattle.at_section.specs.Quiet.{is_quiet, AreQuiet}
 
 -- one step of a part is one of the whole
@@ -135,3 +135,15 @@ fast_quiet kinds.ScanLoad e = absurd (true≢false (sym e))
 pub loads_quiet : (ms : List Mark) → All (λ m. IsTrue (is_fast_load m.kind)) ms → AreQuiet ms
 loads_quiet [] all = tt
 loads_quiet (m ∷ ms) all = (fast_quiet m.kind (All-head (λ n. IsTrue (is_fast_load n.kind)) m ms all), loads_quiet ms (All-tail (λ n. IsTrue (is_fast_load n.kind)) m ms all))
+
+-- so they find no lock held
+
+quiet_free : (d : Deed) (found : Option ℕ) → is_quiet d ≡ true → finds_held d found ≡ false
+quiet_free tries found e = absurd (true≢false (sym e))
+quiet_free gives found e = absurd (true≢false (sym e))
+quiet_free loads found e = refl
+quiet_free other found e = refl
+
+pub quiet_held : (ms : List Mark) → AreQuiet ms → NoHeld ms
+quiet_held [] quiet = tt
+quiet_held (m ∷ ms) quiet = (quiet_free (deed_of m.kind) m.found quiet.0, quiet_held ms quiet.1)

@@ -27,7 +27,8 @@ use Rattle.at_section.proofs.Settling.{all_has, last_one}
 use Rattle.at_section.proofs.Standing.{word_apart}
 use Rattle.at_call.specs.Done.{IsAnswered, IsDone, Leaves, LeavesUnwritten}
 use Rattle.at_call.specs.Loads.{Loads}
-use Rattle.at_call.specs.UnderWay.{IsFrom, IsUnderWay, Rests}
+use Rattle.at_call.specs.Loads.{Loads}
+use Rattle.at_call.specs.UnderWay.{IsFrom, IsUnderWay}
 use Rattle.at_call.proofs.From.{from_left, from_loads, from_self, from_then}
 use Rattle.at_call.proofs.Growing.{answered_before, answered_later}
 use Rattle.at_call.proofs.Keeping.{on_loads, on_placed}
@@ -133,12 +134,12 @@ from_placed p q at same after later = record {
   birth = ap (λ v. v.history.birth) after;
   later = subst (IsPrefix (view p).history.seen) (sym (ap (λ v. v.history.seen) after)) later;
   joined = ap (λ v. v.joined) after;
-  tags = ap (λ v. v.tags) after;
-  read = ap (λ v. v.read) after;
-  write = ap (λ v. v.write) after;
+  online = ap (λ v. v.tags.online) after;
+  entry = ap (λ v. v.write.writing) after;
   kept = ap (λ v. v.kept) after;
   marks = mark kinds.PlaceLoad place (Some (length at)) (Some (length at)) ∷ [];
   trace = ap (λ v. v.trace) after;
+  alone = λ is. (refl, tt);
 }
 
 pub under_placed : (ls : List lock.Lock) (p q r : Pass) (at : List op.Op) → IsUnderWay ls p q → TypesSurface q → IsSame q r → view r ≡ place_loaded (view q) at → Saw (opening_of (view q).who.limits) (view q) at → IsUnderWay ls p r

@@ -29,7 +29,7 @@ use Rattle.at_call.specs.Done.{IsAnswered}
 use Rattle.at_call.specs.UnderWay.{IsFrom, IsUnderWay, IsUnwritten}
 use Rattle.at_call.proofs.Growing.{write_call}
 use Rattle.at_call.proofs.Keeping.{IsHeldBy, on_held}
-use Rattle.at_call.proofs.Marks.{has_last, has_more}
+use Rattle.at_call.proofs.Marks.{has_last, has_more, quiet_held}
 use Rattle.at_call.proofs.UnderWays.{under_quiet}
 
 -- Intending
@@ -90,12 +90,12 @@ from_intended p q same i = record {
   birth = ap (λ h. h.birth) i.history;
   later = ([], append-nil (view p).history.seen ∙ sym (ap (λ h. h.seen) i.history));
   joined = i.joined;
-  tags = i.tags;
-  read = i.read;
-  write = i.write;
+  online = ap (λ x. x.online) i.tags;
+  entry = ap (λ x. x.writing) i.write;
   kept = i.kept;
   marks = i.marks;
   trace = i.trace;
+  alone = λ is. quiet_held i.marks i.quiet;
 }
 
 pub under_intended : (ls : List lock.Lock) (p q r : Pass) → IsUnderWay ls p q → TypesSurface q → IsSame q r → IsIntended (view q) (view r) → IsUnderWay ls p r
@@ -114,12 +114,12 @@ from_written p q at operation same after later = record {
   birth = ap (λ v. v.history.birth) after;
   later = subst (IsPrefix (view p).history.seen) (sym (ap (λ v. v.history.seen) after)) (prefix_trans (view p).history.seen at (at ++ operation ∷ []) later (operation ∷ [], refl));
   joined = ap (λ v. v.joined) after;
-  tags = ap (λ v. v.tags) after;
-  read = ap (λ v. v.read) after;
-  write = ap (λ v. v.write) after;
+  online = ap (λ v. v.tags.online) after;
+  entry = ap (λ v. v.write.writing) after;
   kept = ap (λ v. v.kept) after;
   marks = commit_mark at ∷ [];
   trace = ap (λ v. v.trace) after;
+  alone = λ is. (refl, tt);
 }
 
 entered_written : (l : lock.Lock) (v : View) (at : List op.Op) (operation : op.Op) → holds l v ≡ true → (hold_of l (written kinds.Commit v at operation)).entered ≡ (hold_of l v).entered

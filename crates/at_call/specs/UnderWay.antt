@@ -12,8 +12,10 @@ use Rattle.at_core.specs.Backed.{Has, TakesTypes}
 use Rattle.at_core.specs.Locks.{hold_of, AreKept}
 use Rattle.at_core.specs.Opened.{opening_of}
 use Rattle.at_core.specs.Passes.{notes, view}
+use Rattle.at_core.specs.Plays.{IsAlone}
 use Rattle.at_core.specs.Rule.{TypesAgree}
 use Rattle.at_section.specs.Calls.{IsSamePass}
+use Rattle.at_section.specs.Deeds.{NoHeld}
 use Rattle.at_section.specs.Scores.{Start}
 use Rattle.at_section.specs.Sections.{named_locks, Sections}
 
@@ -22,18 +24,19 @@ abbrev pub seen_world : Pass → World
 seen_world p = replay (opening_of (view p).who.limits) (view p).history.seen
 
 -- What a call leaves of the pass that makes it, at each of its moments: it is the same pass, which has gone on from where it was.
+-- One that is alone found no lock held.
 pub record IsFrom (p q : Pass) : Type 0 where
   pub same : IsSamePass p q
   pub who : (view q).who ≡ (view p).who
   pub birth : (view q).history.birth ≡ (view p).history.birth
   pub later : IsPrefix (view p).history.seen (view q).history.seen
   pub joined : (view q).joined ≡ (view p).joined
-  pub tags : (view q).tags ≡ (view p).tags
-  pub read : (view q).read ≡ (view p).read
-  pub write : (view q).write ≡ (view p).write
+  pub online : (view q).tags.online ≡ (view p).tags.online
+  pub entry : (view q).write.writing ≡ (view p).write.writing
   pub kept : (view q).kept ≡ (view p).kept
   pub marks : List Mark
   pub trace : (view q).trace ≡ (view p).trace ++ marks
+  pub alone : IsAlone (view p) → NoHeld marks
 
 -- one of the steps from the first to the second is so
 abbrev pub HasStep : (Mark → Type 0) → Pass → Pass → Type 0

@@ -1,10 +1,13 @@
 -- The calls that begin and end sections, of the steps that they make.
-use Rattle.std.proofs.Common.{◌≡◌, ℕ, Bool, true, false, List, [], ◌∷◌, ◌++◌, map, length, Option, refl, sym, ap, ◌∙◌, subst}
+use Rattle.std.proofs.Common.{◌≡◌, ℕ, ◌≤◌, Bool, true, false, List, [], ◌∷◌, ◌++◌, map, length, Option, refl, sym, ap, ◌∙◌, subst, arith, append_assoc}
 use Rattle.std.specs.Prelude.{Some, None, nat_lt, ◌==◌, if◌then◌else◌}
 use Rattle.std.specs.List.{list_all}
 use Rattle.at_model.specs.World.{World}
 use Rattle.at_value.specs.declared.operation.Op as op
+use Rattle.at_view.specs.declared.mark.Mark.{Mark}
+use Rattle.at_view.specs.declared.mark.StepKind.TheVariants as kinds
 use Rattle.at_view.specs.declared.view.View.{View}
+use Rattle.at_view.specs.Words as words
 use Rattle.at_core.specs.declared.lock.Lock as lock
 use Rattle.at_core.specs.declared.lock.Lock.TheVariants as locks
 use Rattle.at_core.specs.declared.note.Note.{Note}
@@ -14,9 +17,11 @@ use Rattle.at_core.specs.Opened.{opening_of}
 use Rattle.at_core.specs.Passes.{notes, view, IsSame, IsNoted}
 use Rattle.at_core.specs.PlacePlays.{Saw}
 use Rattle.at_core.specs.PlaceSteps.{place_loaded}
+use Rattle.at_core.specs.Steps.{mark}
+use Rattle.at_core.proofs.Prefixes.{prefix_length}
 use Rattle.at_section.specs.declared.ended.How as how
 use Rattle.at_section.specs.declared.ended.Ended.{Ended}
-use Rattle.at_section.specs.Calls.{IsSamePass, IsLeft, Adds, Moves, IsLoaded, Begins, Finishes, given_of, IsSuspended, last_of}
+use Rattle.at_section.specs.Calls.{IsSamePass, IsLeft, Adds, Moves, IsLoaded, Begins, Finishes, given_of, IsSuspended, last_of, HasLoaded}
 use Rattle.at_section.specs.Deeds.{word_of, names, held, Every}
 use Rattle.at_section.specs.Scores.{start_of}
 use Rattle.at_section.specs.Sections.{rows, in_order, locks_of, named_locks, after_load, Stands, Sections, Pairs}
@@ -35,6 +40,9 @@ kept_loaded opened v at kept (locks.Row o) has = let k = kept (locks.Row o) has 
 pub kept_now : (w : View) (place : ℕ) → IsLoaded w place → AreKept (opening_of w.who.limits) w
 kept_now w place l = subst (λ v. AreKept (opening_of v.who.limits) v) (sym l.after) (kept_loaded (opening_of l.before.who.limits) l.before l.at l.saw.kept)
 
+abbrev load_mark : ℕ → Mark
+load_mark found = mark kinds.PlaceLoad words.place (Some found) (Some found)
+
 pub begins_of : (p q r s : Pass) (n : Note) (place : ℕ) (at : List op.Op) → Moves (locks_of n) p q → list_all (held (view q)) (locks_of n) ≡ true
     → IsSamePass q r → length at ≡ place → view r ≡ place_loaded (view q) at → Saw (opening_of (view q).who.limits) (view q) at → notes r ≡ map (after_load (held (view q))) (notes q)
     → IsNoted r s → notes s ≡ notes r ++ n ∷ [] → n.active ≡ true → n.given ≡ 0 → Begins (locks_of n) p s place
@@ -43,6 +51,13 @@ begins_of p q r s n place at moves has same long loaded saw noted pushes pushed 
   left = subst (IsLeft (view p)) (sym e) m.left;
   adds = subst (Adds ls (view p)) (sym e) m.adds;
   loaded = record { before = view q; at = at; after = e ∙ loaded; long = long; saw = saw };
+  load = (
+    moves.adds.marks,
+    [],
+    ap (λ v. v.trace) (e ∙ loaded)
+    ∙ (ap (λ (k : ℕ). (view q).trace ++ load_mark k ∷ []) long
+    ∙ (ap (λ t. t ++ load_mark place ∷ []) moves.adds.trace ∙ append_assoc (view p).trace moves.adds.marks (load_mark place ∷ []))),
+  );
   has = ap (λ v. list_all (held v) ls) e ∙ has_r;
   around = notes r;
   note = n;
@@ -83,6 +98,7 @@ begins_after ls p q t place same e b =
       left = subst (IsLeft (view p)) (sym e) b.left;
       adds = subst (Adds ls (view p)) (sym e) b.adds;
       loaded = subst (λ v. IsLoaded v place) (sym e) b.loaded;
+      load = subst (HasLoaded place (view p)) (sym e) b.load;
       has = ap (λ v. list_all (held v) ls) e ∙ b.has;
       around = b.around;
       note = b.note;
@@ -110,6 +126,13 @@ finishes_of p q r s t n place at h are same long loaded saw noted pops pop relea
   named = rt.named;
   counted = counted;
   some = some;
+  late = (let short = prefix_length (view p).history.seen at saw.later in omega (arith, short, long));
+  load = (
+    [],
+    adds_q.marks,
+    adds_q.trace ∙ (ap (λ v. v.trace ++ adds_q.marks) loaded
+    ∙ (ap (λ (k : ℕ). ((view p).trace ++ load_mark k ∷ []) ++ adds_q.marks) long ∙ append_assoc (view p).trace (load_mark place ∷ []) adds_q.marks)),
+  );
   adds = adds_then below (view p) (view q) (view t) pq.left pq.adds adds_q;
   ended = λ starts u a.
       let last_p = (pairs_last (λ x v. Stands (view p) x v) (notes r) starts n u (subst (λ ns. Pairs (λ x v. Stands (view p) x v) ns (starts ++ u ∷ [])) popped a)).1 in
@@ -160,6 +183,8 @@ finishes_before p q t r same e f =
       named = f.named;
       counted = f.counted;
       some = f.some;
+      late = subst (λ v. length v.history.seen ≤ r.place.0) e f.late;
+      load = subst (λ v. HasLoaded r.place.0 v (view t)) e f.load;
       adds = subst (λ v. Adds (last_of (named_locks f.around)) v (view t)) e f.adds;
       ended = λ starts u a. f.ended starts u (subst (λ v. Pairs (λ x w. Stands v x w) (notes q) (starts ++ u ∷ [])) (sym e) (subst (λ ns. Pairs (λ x w. Stands (view p) x w) ns (starts ++ u ∷ [])) (sym noted) a));
     }

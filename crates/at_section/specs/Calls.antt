@@ -1,5 +1,5 @@
 -- What the calls that begin and end sections do.
-use Rattle.std.specs.Prelude.{ℕ, ◌≡◌, ◌<◌, true, List, [], ◌∷◌, ◌++◌, length, Some}
+use Rattle.std.specs.Prelude.{ℕ, ◌≡◌, ◌<◌, ◌≤◌, true, List, [], ◌∷◌, ◌++◌, length, Some}
 use Rattle.std.specs.List.{list_all}
 use mathlib.Core.List.{IsPrefix}
 use Rattle.at_value.specs.declared.operation.Op as op
@@ -71,12 +71,17 @@ pub record IsLoaded (w : View) (place : ℕ) : Type 0 where
   pub long : length at ≡ place
   pub saw : Saw (opening_of before.who.limits) before at
 
--- A section of these locks began, and its place was loaded while all of them were held.
+-- One of the steps between the two views loaded the place, and found so many writes.
+abbrev pub HasLoaded : ℕ → View → View → Type 0
+HasLoaded place v w = (before : List Mark) × (after : List Mark) × (w.trace ≡ v.trace ++ (before ++ mark kinds.PlaceLoad words.place (Some place) (Some place) ∷ after))
+
+-- A section of these locks began, and its place was loaded by one of the call's own steps, while all of them were held.
 pub record Begins (ls : List lock.Lock) (p q : Pass) (place : ℕ) : Type 0 where
   pub same : IsSamePass p q
   pub left : IsLeft (view p) (view q)
   pub adds : Adds ls (view p) (view q)
   pub loaded : IsLoaded (view q) place
+  pub load : HasLoaded place (view p) (view q)
   pub has : list_all (held (view q)) ls ≡ true
   pub around : List Note
   pub note : Note
@@ -124,7 +129,8 @@ last_of [] = []
 last_of (ls ∷ []) = ls
 last_of (ls ∷ next ∷ more) = last_of (next ∷ more)
 
--- The innermost section ended, and the one around it may have taken its locks again.
+-- The innermost section ended, at a place that is no earlier than what the pass had seen and that one of the call's own steps
+-- loaded; and the one around it may have taken its locks again.
 pub record Finishes (p q : Pass) (r : Ended) : Type 0 where
   pub same : IsSamePass p q
   pub left : IsLeft (view p) (view q)
@@ -134,5 +140,7 @@ pub record Finishes (p q : Pass) (r : Ended) : Type 0 where
   pub named : named_locks (notes q) ≡ named_locks around
   pub counted : given_of r.how ≡ note.given
   pub some : IsSuspended r.how
+  pub late : length (view p).history.seen ≤ r.place.0
+  pub load : HasLoaded r.place.0 (view p) (view q)
   pub adds : Adds (last_of (named_locks around)) (view p) (view q)
   pub ended : (starts : List Start) (s : Start) → Sections p (starts ++ s ∷ []) → Sections q starts × Ends s (locks_of note) (view q) r
