@@ -27,7 +27,10 @@ use Rattle.at_core.specs.Plays.{RowsAreNamed}
 use Rattle.at_core.specs.Steps.{copied_heads}
 use Rattle.at_core.specs.Writes.{dict_named}
 use Rattle.at_call.specs.Done.{IsReadNow}
+use Rattle.at_core.specs.Locks.{hold_at}
+use Rattle.at_call.specs.Loads.{Still, Rests}
 use Rattle.at_call.specs.UnderWay.{seen_world}
+use Rattle.at_call.proofs.Keeping.{world_rests}
 use Rattle.at_call.proofs.Found.{object_step}
 use Rattle.at_get.specs.declared.finding.OwnValue.{OwnValue}
 use Rattle.at_get.specs.declared.inline.InlineValue.{InlineValue}
@@ -77,3 +80,16 @@ own_rows p o n None none d in_it = absurd (no_base d (subst (λ (found : Option 
 own_rows p o n (Some own) f d in_it =
     let one = subst (λ (found : Option Object). Contains (dict_named found) d) f.there in_it in
     ⊎_elim (λ (is : f.object.dict ≡ d). subst (λ (k : ℕ). holds (locks.Row k) (view p) ≡ true) is f.held) (λ (no : Contains [] d). absurd (no_base d no)) one
+
+pub get_now : (p q : Pass) (o n : ℕ) (own : Option OwnValue) (reply : reply.Reply) → IsOwn p o n own → Rests p q → reply ≡ (step (seen_world p) (ops.Get o n)).reply → IsReadNow (ops.Get o n) reply (view q)
+get_now p q o n own reply is rests replied =
+    let world = world_rests p q rests in
+    record {
+      read = record {
+        replied = replied ∙ ap (λ (w : World). (step w (ops.Get o n)).reply) (sym world);
+        no_write = reads_write_nothing (seen_world q) (ops.Get o n) refl;
+      };
+      rows = λ d in_it. absurd (no_base d in_it);
+      reads = λ d in_it. ap (λ (x : Still). (hold_at d x.holds).held) rests.loads.only.still
+          ∙ own_rows p o n own is d (subst (λ (w : World). Contains (dict_named (slice_get w.objects o)) d) world in_it);
+    }
