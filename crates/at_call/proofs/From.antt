@@ -1,5 +1,5 @@
 -- A pass that goes on from where it was.
-use Rattle.std.proofs.Common.{List, ◌++◌, sym, ap, ◌∙◌, subst, append_assoc, append-nil}
+use Rattle.std.proofs.Common.{◌≡◌, false, [], refl, List, ◌++◌, sym, ap, ◌∙◌, subst, append_assoc, append-nil}
 use mathlib.Core.List.{IsPrefix}
 use Rattle.at_core.specs.declared.lock.Lock as lock
 use Rattle.at_core.specs.declared.world.Pass.{Pass}
