@@ -3,6 +3,8 @@ use Rattle.std.specs.Prelude.{ℕ, ◌==◌, nat_lt, Bool, true, false, ◌&&◌
 use Rattle.at_script.specs.Bytes as bytes
 use Rattle.at_back.specs.declared.fault.PieceFault.{PieceFault}
 use Rattle.at_back.specs.declared.fault.PieceFault.TheVariants as faults
+use Rattle.at_back.specs.declared.fault.TextFault.{TextFault}
+use Rattle.at_back.specs.declared.fault.TextFault.TheVariants as text_faults
 
 -- what was read, and what is left of the text
 abbrev pub left : {A : Type 0} → Option A → List ℕ → Option (A × List ℕ)
@@ -34,6 +36,11 @@ IfTold (Err faults.NoMemory) P = Unit {0}
 abbrev pub there_of : {A : Type 0} → Option A → Result A PieceFault
 there_of None = Err faults.Wrong
 there_of (Some a) = Ok a
+
+-- the fault of a piece in this line
+abbrev pub fault_at : ℕ → PieceFault → TextFault
+fault_at line faults.Wrong = text_faults.Form line
+fault_at line faults.NoMemory = text_faults.NoMemory
 
 -- more than one digit, and the first is `0`
 abbrev pub leads_zero : List ℕ → Bool

@@ -1,3 +1,4 @@
 pub mod Left
 pub mod Indexing
 pub mod Told
+pub mod Transcripts

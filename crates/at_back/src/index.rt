@@ -4,6 +4,7 @@ ghost use Rattle.at_value.specs.Widths as widths;
 ghost use Rattle.std.specs.Option.{option_copied};
 ghost use Rattle.at_name.specs.Texts.{place_of};
 ghost use Rattle.at_script.specs.Laws.{AreIdentifiers, AreToldApart};
+ghost use Rattle.at_text.specs.Values.{text_at};
 ghost use Rattle.at_back.specs.Indexing.{added};
 
 use at_name::Texts;
@@ -92,6 +93,16 @@ impl<'s> Index<'s> {
     {
         let place = self.vars.place_of(text)?;
         Some(place as u16)
+    }
+
+    /// The text of a name, and nothing where the script has no such name.
+    pub(crate) fn text(&self, name: Name) -> &str
+        ensures { result.now ≡ text_at self.now.names name }
+    {
+        match self.script.name_text(name) {
+            Some(text) => text,
+            None => "",
+        }
     }
 }
 

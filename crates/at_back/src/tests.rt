@@ -1,2 +1,4 @@
-//! Pieces of a transcript that are read.
+//! Pieces and whole texts that are read.
+mod faults;
 mod pieces;
+mod whole;
