@@ -9,3 +9,4 @@ pub mod Indexed
 pub mod Exact
 pub mod Items
 pub mod ClassItems
+pub mod ObjectNumbers

@@ -53,7 +53,7 @@ impl From<AllocError> for PieceFault {
 impl PieceFault {
     /// The fault, where the piece is in the line of this number.
     pub(crate) fn at(self, line: u32) -> TextFault
-        ensures { result ≡ fault_at line self.now }
+        ensures { result ≡ fault_at line self }
     {
         match self {
             PieceFault::Wrong => TextFault::Form(line),

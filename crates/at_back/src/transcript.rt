@@ -1,5 +1,6 @@
 //! Reading a whole transcript.
 ghost use Rattle.std.specs.Prelude.{ℕ, ◌≡◌, ◌<◌, ◌-◌, ◌^◌, length, IfOk};
+ghost use Rattle.at_script.specs.Laws.{AreToldApart};
 ghost use Rattle.at_back.specs.Transcripts.{IsTranscriptOf, IsFormLine};
 
 use crate::cursor::Cursor;
@@ -11,7 +12,7 @@ use crate::list::add;
 use crate::number::number_of;
 use at_line::{FINALLY_THREAD, Line, Lines, Ran};
 use at_model::{ClassEnd, ClassEnds, Final, ObjEnd, ObjEnds};
-use at_script::{ReadFault, Script};
+use at_script::{ReadFault, Script, names_are_told_apart};
 use at_text::words::{END, FINAL, HEADER, LINES, SCRIPT};
 use at_value::{Class, Name, Pairs, Sequence, Value};
 use std::alloc::Global;
@@ -243,6 +244,14 @@ impl<'t> Reader<'t> {
     }
 }
 
+/// The run of the script, in what is left of the text.
+fn run_of(reader: &mut Reader<'_>, script: &Script) -> Result<Ran, TextFault>
+    requires { AreToldApart script.now }
+{
+    let names = Index::new(reader.alloc, script)?;
+    reader.run(&names)
+}
+
 /// Reads the text of a transcript.
 ///
 /// The text doesn't have the numbers that a miss carries: each of them is 0. Another text is refused with the first line
@@ -260,8 +269,8 @@ pub fn read(alloc: Global, bytes: &[u8]) -> Result<Transcript, TextFault>
     };
     reader.word(HEADER)?;
     let (script_bytes, script) = reader.script()?;
-    let names = Index::new(alloc, &script)?;
-    let run = reader.run(&names)?;
+    names_are_told_apart();
+    let run = run_of(&mut reader, &script)?;
     let mut copy = Vec::with_capacity(alloc, script_bytes.len())?;
     copy.extend_from_slice(script_bytes)?;
     Ok(Transcript {
