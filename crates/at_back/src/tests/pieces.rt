@@ -30,11 +30,12 @@ set b.y \"x\"
 end
 ";
 
-fn script(alloc: Global) -> Result<Script, Fail>
+/// The script of this text, whose names are told apart.
+fn script(alloc: Global, text: &[u8]) -> Result<Script, Fail>
     ensures { IfOk result AreToldApart }
 {
     names_are_told_apart();
-    Ok(read(alloc, SCRIPT)?)
+    Ok(read(alloc, text)?)
 }
 
 /// The value that the text is, where nothing follows it.
@@ -137,7 +138,7 @@ fn assert_values(rt: &impl Abort, names: &Index<'_>, table: &[(&'static [u8], Op
 
 #[test]
 fn values_are_read_at_their_bounds(rt: HostRuntime) -> Result<(), Fail> {
-    let script = script(rt.alloc())?;
+    let script = script(rt.alloc(), SCRIPT)?;
     let names = Index::new(rt.alloc(), &script)?;
     assert_values(&rt, &names, &integers());
     assert_values(&rt, &names, &objects());
@@ -191,7 +192,7 @@ const OPERATIONS: [(&[u8], bool); 28] = [
 
 #[test]
 fn operations_are_read(rt: HostRuntime) -> Result<(), Fail> {
-    let script = script(rt.alloc())?;
+    let script = script(rt.alloc(), SCRIPT)?;
     let names = Index::new(rt.alloc(), &script)?;
     for (text, is_operation) in OPERATIONS {
         assert_eq!(rt; operation(&names, text).is_some(), is_operation);
@@ -276,7 +277,7 @@ const LINES: [(&[u8], bool); 40] = [
 
 #[test]
 fn lines_are_read(rt: HostRuntime) -> Result<(), Fail> {
-    let script = script(rt.alloc())?;
+    let script = script(rt.alloc(), SCRIPT)?;
     let names = Index::new(rt.alloc(), &script)?;
     for (text, expected) in LINES {
         assert_eq!(rt; is_line(rt.alloc(), &names, text)?, expected);
